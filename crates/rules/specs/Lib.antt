@@ -1,0 +1,7 @@
+-- Document 01 as definitions that compute, one file for each heading, and its starred berth examples as one theorem.
+pub mod Numbers
+pub mod Gap
+pub mod Answers
+pub mod Refusals
+pub mod Search
+pub mod Berth

@@ -1,0 +1,42 @@
+-- Document 01, "What comes back": rows 1 to 7 of the table, and their order.
+use Prim.Native.Nat.{ℕ}
+use mathlib.Core.Bool.{Bool, true, false, not, _&&_, _||_, cond}
+use mathlib.Core.List.{List, [], _∷_, _++_}
+use lib.IntN.{ℤ}
+use lib.Dec.{leb, eqb}
+use Rattle.rules.specs.declared.Record.{Record}
+use Rattle.rules.specs.Numbers.{isCoordinate, isSeparation, isTolerance, isBudget, isQueue}
+
+-- a row of the table: its number, and whether it is given
+pub record Case : Type 0 where
+  pub number : ℕ
+  pub due : Bool
+
+-- "lowest number first": the number of the first row that is due; 0 where none is
+unfoldable pub first : List Case → ℕ
+first [] = 0
+first (c ∷ cs) = cond (c .due) (c .number) (first cs)
+
+-- whether all of them are such
+unfoldable pub every : (ℤ → Bool) → List ℤ → Bool
+every f [] = true
+every f (c ∷ cs) = f c && every f cs
+
+-- 1 KIND, 2 FLAGS, 3 COORD, 4 SEPARATION, 5 TOLERANCE, 6 BUDGET, each "given exactly when"
+abbrev pub recordCases : Record → List Case
+recordCases r =
+    record { number = 1; due = not (eqb (r .kind) 1 || eqb (r .kind) 2) }
+    ∷ record { number = 2; due = not (leb (r .flags) 1 && eqb (r .byte2) 0 && eqb (r .byte3) 0) }
+    ∷ record { number = 3; due = not (every isCoordinate (r .points)) }
+    ∷ record { number = 4; due = not (isSeparation (r .separation)) }
+    ∷ record { number = 5; due = not (isTolerance (r .tolerance)) }
+    ∷ record { number = 6; due = not (isBudget (r .budget)) }
+    ∷ []
+
+-- what a record is refused for by itself
+unfoldable pub recordRefusal : Record → ℕ
+recordRefusal r = first (recordCases r)
+
+-- "Search: 1 to 7": 7 QUEUE, "word count outside its range", after the record's own
+unfoldable pub searchRefusal : Record → ℕ → ℕ
+searchRefusal r words = first (recordCases r ++ (record { number = 7; due = not (isQueue words) } ∷ []))

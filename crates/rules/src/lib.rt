@@ -1,0 +1,82 @@
+// The values that document 01 speaks of, by value. The rules themselves stand in specs/.
+
+// A query as it is handed to the search or to a writer: every field of the file's record.
+// The points are p, v1, v2, v3 or p1, p2, p3, p4 at the start, then the same four at the end; x, y, z of each.
+pub struct Record {
+    pub kind: u8,
+    pub flags: u8,
+    pub byte2: u8,
+    pub byte3: u8,
+    pub id: u32,
+    pub separation: u32,
+    pub tolerance: u32,
+    pub budget: u32,
+    pub points: [i32; 24],
+}
+
+// One number a parameter: a box's indices, or a level's depths.
+pub struct Three {
+    pub t: u64,
+    pub u: u64,
+    pub v: u64,
+}
+
+// The parameter that a level is split in.
+pub enum Parameter {
+    InT,
+    InU,
+    InV,
+}
+
+// A low corner in 1/1,048,576 parts, with its excess in units.
+pub struct Corner {
+    pub t: u32,
+    pub u: u32,
+    pub v: u32,
+    pub excess: u32,
+}
+
+// What comes back. A refusal carries its number.
+pub enum Answer {
+    Met {
+        t: u32,
+        u: u32,
+        v: u32,
+        excess: u32,
+        count: u32,
+    },
+    Clear(u32),
+    Spent {
+        t: u32,
+        u: u32,
+        v: u32,
+        excess: u32,
+        count: u32,
+    },
+    Room {
+        t: u32,
+        u: u32,
+        v: u32,
+        excess: u32,
+        count: u32,
+    },
+    Floor {
+        t: u32,
+        u: u32,
+        v: u32,
+        excess: u32,
+        count: u32,
+    },
+    Refused(u32),
+}
+
+// An answer in numbers alone, as `told` of specs/Answers.antt gives it.
+pub struct Told {
+    pub word: u32,
+    pub t: u32,
+    pub u: u32,
+    pub v: u32,
+    pub excess: u32,
+    pub count: u32,
+    pub number: u32,
+}
