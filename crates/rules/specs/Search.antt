@@ -29,6 +29,7 @@ pub record Query : Type 0 where
   pub room : ℕ
   pub deepest : ℕ
 
+-- "An answer depends on the record and the number of words": what a record with so many words asks
 abbrev pub query : Record → ℕ → Query
 query r words =
     record {
@@ -43,9 +44,11 @@ query r words =
 
 -- ---- boxes
 
+-- a box by its t, u, v index
 abbrev pub Box : Type 0
 Box = Three
 
+-- "At a level all boxes have the same depths (kt, ku, kv)"
 abbrev pub Depths : Type 0
 Depths = Three
 
@@ -71,6 +74,7 @@ unfoldable pub overCorners : (ℤ → ℤ → ℤ) → Query → Depths → Box 
 overCorners pick q k box axis =
     ends pick (k .t) (box .t) (λ a. ends pick (k .u) (box .u) (λ b. ends pick (k .v) (box .v) (λ c. q .gap axis parts a b c)))
 
+-- the least and the greatest of two, as signed numbers
 abbrev pub lesser : ℤ → ℤ → ℤ
 lesser m n = cond (leZ m n) m n
 
@@ -84,9 +88,11 @@ least = overCorners lesser
 unfoldable pub greatest : Query → Depths → Box → Axis → ℤ
 greatest = overCorners greater
 
+-- "on all three axes"
 abbrev pub onAll : (Axis → Bool) → Bool
 onAll f = f X && f Y && f Z
 
+-- the largest over the three axes
 abbrev pub largest : (Axis → ℕ) → ℕ
 largest f = max (f X) (max (f Y) (f Z))
 
@@ -99,6 +105,7 @@ survives q k box =
 unfoldable pub width : Query → Depths → Box → ℕ
 width q k box = largest (λ axis. natAbs (greatest q k box axis -ℤ least q k box axis))
 
+-- "rounded up to a whole unit"
 abbrev pub roundUp : ℕ → ℕ
 roundUp n = (n + (unit - 1)) / unit
 
@@ -126,6 +133,7 @@ pub data Checked : Type 0 where
   answered : Answer → Checked
   through : ℕ → Corner → List Box → Checked
 
+-- a survivor stays in its level
 abbrev pub keep : Box → Checked → Checked
 keep box (answered a) = answered a
 keep box (through n c rest) = through n c (box ∷ rest)
@@ -189,6 +197,7 @@ on InT f b = record { t = f (b .t); u = b .u; v = b .v }
 on InU f b = record { t = b .t; u = f (b .u); v = b .v }
 on InV f b = record { t = b .t; u = b .u; v = f (b .v) }
 
+-- a split: one depth more, and index i becomes 2·i and 2·i + 1
 abbrev pub deeper : Parameter → Depths → Depths
 deeper p = on p (λ k. k + 1)
 
@@ -259,5 +268,6 @@ unfoldable pub unless : ℕ → Answer → Answer
 unless zero a = a
 unless (suc n) a = Refused (suc n)
 
+-- the refusals come before anything is searched
 unfoldable pub search : Record → ℕ → Answer
 search r words = unless (searchRefusal r words) (run (query r words))
