@@ -1,0 +1,86 @@
+// Rows 1 to 7 of document 01's table, lowest number first. The search and the query file share them.
+ghost use mathlib.Core.Path.{_≡_};
+ghost use mathlib.Core.Bool.{_&&_, _||_, cond};
+ghost use lib.Dec.{eqb, leb};
+ghost use Rattle.rules.specs.Numbers.{between, isCoordinate, isQueue};
+ghost use Rattle.rules.specs.Refusals.{every, recordCases, recordRefusal, searchRefusal};
+ghost use Rattle.refusals.specs.Cases.{firstOr};
+use rules::Record;
+
+// Both sides of each `&` and `|` here are always worked out, so that a test is one value and no branch.
+fn is_between(low: u32, high: u32, n: u32) -> bool
+    ensures { λ b. ⌜ b ≡ between low high n ⌝ }
+{
+    (low <= n) & (n <= high)
+}
+
+fn is_kind(kind: u8) -> bool
+    ensures { λ b. ⌜ b ≡ (eqb kind 1 || eqb kind 2) ⌝ }
+{
+    (kind == 1) | (kind == 2)
+}
+
+fn are_flags(flags: u8, byte2: u8, byte3: u8) -> bool
+    ensures { λ b. ⌜ b ≡ (leb flags 1 && eqb byte2 0 && eqb byte3 0) ⌝ }
+{
+    (flags <= 1) & (byte2 == 0) & (byte3 == 0)
+}
+
+// Nothing is negated here: the least i32 has no negative.
+fn is_coordinate(c: i32) -> bool
+    ensures { λ b. ⌜ b ≡ isCoordinate c ⌝ }
+{
+    (-1048576 <= c) & (c <= 1048576)
+}
+
+fn are_coordinates(points: [i32; 24]) -> bool
+    ensures { λ b. ⌜ b ≡ every isCoordinate points ⌝ }
+{
+    let mut all = true;
+    let mut i = 0;
+    while i < 24 {
+        all = all & is_coordinate(points[i]);
+        i += 1;
+    }
+    all
+}
+
+fn is_queue(words: usize) -> bool
+    ensures { λ b. ⌜ b ≡ isQueue words ⌝ }
+{
+    (2 <= words) & (words <= 1048576)
+}
+
+// `number` where the row is due, else `rest`.
+fn first(due: bool, number: u32, rest: u32) -> u32
+    ensures { λ n. ⌜ n ≡ cond due number rest ⌝ }
+{
+    if due { number } else { rest }
+}
+
+// The first of 1 to 6 that is due, else `rest`: from the last row to the first.
+fn record_refusal_or(r: Record, rest: u32) -> u32
+    ensures { λ n. ⌜ n ≡ firstOr (recordCases r) rest ⌝ }
+{
+    let points = r.points;
+    let six = first(!is_between(1, 1000000, r.budget), 6, rest);
+    let five = first(!is_between(16, 1048576, r.tolerance), 5, six);
+    let four = first(!is_between(0, 65536, r.separation), 4, five);
+    let three = first(!are_coordinates(points), 3, four);
+    let two = first(!are_flags(r.flags, r.byte2, r.byte3), 2, three);
+    first(!is_kind(r.kind), 1, two)
+}
+
+// What a record is refused for by itself, 1 to 6; 0: nothing.
+pub fn record_refusal(r: Record) -> u32
+    ensures { λ n. ⌜ n ≡ recordRefusal r ⌝ }
+{
+    record_refusal_or(r, 0)
+}
+
+// What a search of it with so many queue words is refused for, 1 to 7; 0: nothing.
+pub fn search_refusal(r: Record, words: usize) -> u32
+    ensures { λ n. ⌜ n ≡ searchRefusal r words ⌝ }
+{
+    record_refusal_or(r, first(!is_queue(words), 7, 0))
+}
