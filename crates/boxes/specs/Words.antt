@@ -1,0 +1,48 @@
+-- Laws of words: what is packed is read back, and the order of words is the order of boxes.
+use mathlib.Core.Path.{_≡_, refl, sym, ap, _∙_}
+use mathlib.Core.Bool.{Bool, true, false, _&&_, _||_}
+use Prim.Native.Nat.{ℕ, _+_, _*_, _/_, _%_, _^_, _≤_, _<_}
+use native.Mathlib.Omega.{arith}
+use lib.Dec.{leb, ltb, eqb}
+use borrow.Author.Tests.{ltb-true, ltb-false, eqb-true, eqb-false, leb-true, leb-false, le-leb, lt-leb}
+use Rattle.rules.specs.Search.{Box, stored, notAfter}
+use Rattle.rules.specs.declared.Three.{Three}
+use Rattle.boxes.specs.Boxes.{boxOf, Fits}
+
+-- a box is its three indices
+three : (a b : Three) → a .t ≡ b .t → a .u ≡ b .u → a .v ≡ b .v → a ≡ b
+three a b e f g = ap (λ (x : ℕ). record { t = x; u = a .u; v = a .v }) e ∙ ap (λ (x : ℕ). record { t = b .t; u = x; v = a .v }) f ∙ ap (λ (x : ℕ). record { t = b .t; u = b .u; v = x }) g
+
+-- unpacking undoes packing
+pub unpack-pack : (b : Box) → Fits b → boxOf (stored b) ≡ b
+unpack-pack b h = three (boxOf (stored b)) b (omega arith) (omega arith) (omega arith)
+
+-- packing undoes unpacking
+pub pack-unpack : (w : ℕ) → w < 2 ^ 60 → stored (boxOf w) ≡ w
+pack-unpack w h = omega arith
+
+-- what is read from a word fits one
+pub fits-word : (w : ℕ) → Fits (boxOf w)
+fits-word w = record { t = omega arith; u = omega arith; v = omega arith }
+
+-- the order of words is the order of boxes
+module _ (a b : Box) (f : Fits a) (g : Fits b) where
+  -- in the last index
+  in-v : (x : Bool) → a .t ≡ b .t → a .u ≡ b .u → leb (a .v) (b .v) ≡ x → x ≡ leb (stored a) (stored b)
+  in-v true d e h = sym (le-leb (stored a) (stored b) (omega (arith, leb-true (a .v) (b .v) h)))
+  in-v false d e h = sym (lt-leb (stored a) (stored b) (omega (arith, leb-false (a .v) (b .v) h)))
+
+  in-u : (x y : Bool) → a .t ≡ b .t → ltb (a .u) (b .u) ≡ x → eqb (a .u) (b .u) ≡ y → (x || y && leb (a .v) (b .v)) ≡ leb (stored a) (stored b)
+  in-u true y d h k = sym (le-leb (stored a) (stored b) (omega (arith, ltb-true (a .u) (b .u) h)))
+  in-u false true d h k = in-v (leb (a .v) (b .v)) d (eqb-true (a .u) (b .u) k) refl
+  in-u false false d h k = sym (lt-leb (stored a) (stored b) (omega (arith, ltb-false (a .u) (b .u) h, eqb-false (a .u) (b .u) k)))
+
+  in-t : (x y : Bool) → ltb (a .t) (b .t) ≡ x → eqb (a .t) (b .t) ≡ y
+      → (x || y && (ltb (a .u) (b .u) || eqb (a .u) (b .u) && leb (a .v) (b .v))) ≡ leb (stored a) (stored b)
+  in-t true y h k = sym (le-leb (stored a) (stored b) (omega (arith, ltb-true (a .t) (b .t) h)))
+  in-t false true h k = in-u (ltb (a .u) (b .u)) (eqb (a .u) (b .u)) (eqb-true (a .t) (b .t) k) refl refl
+  in-t false false h k = sym (lt-leb (stored a) (stored b) (omega (arith, ltb-false (a .t) (b .t) h, eqb-false (a .t) (b .t) k)))
+
+  pub same-order : notAfter a b ≡ leb (stored a) (stored b)
+  unfolding notAfter
+  same-order = in-t (ltb (a .t) (b .t)) (eqb (a .t) (b .t)) refl refl
