@@ -1,0 +1,8 @@
+//! The second program: it shares no code with the proved one, so that the two can be compared.
+
+pub mod file;
+pub mod gap;
+pub mod record;
+pub mod refusals;
+pub mod search;
+pub mod text;

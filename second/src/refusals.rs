@@ -1,0 +1,70 @@
+//! The refusals' numbers, and the checks on a record and on a queue's length.
+
+use crate::record::{Record, EDGE_EDGE, VERTEX_FACE};
+
+#[derive(Clone, Copy, Debug, PartialEq, Eq)]
+pub enum Refusal {
+    Kind = 1,
+    Flags = 2,
+    Coord = 3,
+    Separation = 4,
+    Tolerance = 5,
+    Budget = 6,
+    Queue = 7,
+    Short = 8,
+    Mark = 9,
+    Edition = 10,
+    Count = 11,
+    Back = 12,
+    Index = 13,
+    Space = 14,
+    Long = 15,
+}
+
+impl Refusal {
+    pub fn number(self) -> u32 {
+        self as u32
+    }
+}
+
+pub const MOST_COORDINATE: i32 = 1_048_576;
+pub const MOST_SEPARATION: u32 = 65_536;
+pub const LEAST_TOLERANCE: u32 = 16;
+pub const MOST_TOLERANCE: u32 = 1_048_576;
+pub const MOST_BUDGET: u32 = 1_000_000;
+pub const LEAST_WORDS: usize = 2;
+pub const MOST_WORDS: usize = 1_048_576;
+
+/// Refusals 1 to 6, lowest number first.
+pub fn check_record(record: &Record) -> Result<(), Refusal> {
+    let in_range = |c: &i32| (-MOST_COORDINATE..=MOST_COORDINATE).contains(c);
+    let mut coordinates = record.start.iter().chain(&record.end).flatten();
+    if record.kind != VERTEX_FACE && record.kind != EDGE_EDGE {
+        return Err(Refusal::Kind);
+    }
+    if record.flags > 1 || record.byte2 != 0 || record.byte3 != 0 {
+        return Err(Refusal::Flags);
+    }
+    if !coordinates.all(in_range) {
+        return Err(Refusal::Coord);
+    }
+    if record.separation > MOST_SEPARATION {
+        return Err(Refusal::Separation);
+    }
+    if !(LEAST_TOLERANCE..=MOST_TOLERANCE).contains(&record.tolerance) {
+        return Err(Refusal::Tolerance);
+    }
+    if !(1..=MOST_BUDGET).contains(&record.budget) {
+        return Err(Refusal::Budget);
+    }
+    Ok(())
+}
+
+/// Refusal 7.
+pub fn check_words(words: usize) -> Result<(), Refusal> {
+    if (LEAST_WORDS..=MOST_WORDS).contains(&words) {
+        Ok(())
+    } else {
+        Err(Refusal::Queue)
+    }
+}
