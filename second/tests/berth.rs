@@ -1,0 +1,75 @@
+//! The berth examples of the rules.
+
+mod common;
+
+use common::*;
+use second::record::Record;
+use second::refusals::Refusal;
+use second::search::{search, Answer};
+
+#[test]
+fn point_falls_through_the_face() {
+    let case = first_case();
+    assert_eq!(ask(case), met([262144, 0, 0, 500, 5]));
+    assert_eq!(ask(Record { tolerance: 2000, ..case }), met([0, 0, 0, 1000, 1]));
+    assert_eq!(ask(Record { tolerance: 1000, ..case }), met([0, 0, 0, 1000, 2]));
+    assert_eq!(ask(Record { separation: 500, ..case }), met([0, 0, 0, 500, 4]));
+}
+
+#[test]
+fn budget_ends_with_the_recorded_corner() {
+    let case = first_case();
+    assert_eq!(ask(Record { budget: 4, ..case }), spent([0, 0, 0, 1000, 4]));
+    assert_eq!(ask(Record { budget: 5, ..case }), met([262144, 0, 0, 500, 5]));
+}
+
+#[test]
+fn queue_too_small_for_the_next_level() {
+    let case = first_case();
+    assert_eq!(search(&case, 2), room([0, 0, 0, 1000, 1]));
+    assert_eq!(search(&case, 7), room([0, 0, 0, 1000, 3]));
+    assert_eq!(search(&case, 8), met([262144, 0, 0, 500, 5]));
+}
+
+#[test]
+fn point_that_stops_above() {
+    let case = Record { tolerance: 999, ..falls([0, 0, 1000], [0, 0, 200], T) };
+    assert_eq!(ask(Record { separation: 199, ..case }), clear(1));
+    let near = Record { separation: 200, tolerance: 800, ..case };
+    assert_eq!(ask(near), met([0, 0, 0, 800, 1]));
+}
+
+#[test]
+fn point_beside_the_long_side() {
+    assert_eq!(ask(falls([150, 150, 0], [150, 150, 0], T)), clear(10));
+}
+
+#[test]
+fn flag_negates_y_of_the_second_body() {
+    let still = [[0, 200, 0], [0, -200, 0], [0, -200, 0], [0, -200, 0]];
+    let case = Record { tolerance: 999, ..vf(still, still) };
+    assert_eq!(ask(case), clear(1));
+    assert_eq!(ask(Record { flags: 1, ..case }), met([0, 0, 0, 0, 1]));
+}
+
+#[test]
+fn edges_cross() {
+    let still = [[0, -100, 0], [0, 100, 0]];
+    let case = ee(
+        [[-100, 0, 100], [100, 0, 100], still[0], still[1]],
+        [[-100, 0, -100], [100, 0, -100], still[0], still[1]],
+    );
+    assert_eq!(ask(Record { separation: 100, ..case }), met([0, 0, 0, 0, 1]));
+}
+
+#[test]
+fn refused_in_the_order_of_the_numbers() {
+    let case = first_case();
+    let mut far = case;
+    far.end[3][1] = 1_048_577;
+    assert_eq!(ask(Record { tolerance: 15, ..case }), Answer::Refused(Refusal::Tolerance));
+    assert_eq!(ask(Record { separation: 65_537, ..case }), Answer::Refused(Refusal::Separation));
+    assert_eq!(ask(far), Answer::Refused(Refusal::Coord));
+    let all = Record { tolerance: 15, separation: 65_537, ..far };
+    assert_eq!(ask(all), Answer::Refused(Refusal::Coord));
+}

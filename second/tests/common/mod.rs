@@ -1,0 +1,82 @@
+//! Records in few words, for the tests.
+#![allow(dead_code)]
+
+use second::record::{Point, Record, EDGE_EDGE, VERTEX_FACE};
+use second::search::{search, Answer, Corner};
+
+/// The number that the sources' records call M.
+pub const M: i32 = 1_048_576;
+/// Face T of the berth examples.
+pub const T: [Point; 3] = [[-100, -100, 0], [300, -100, 0], [-100, 300, 0]];
+/// Face G.
+pub const G: [Point; 3] = [[0, 0, 0], [100, 0, 0], [0, 100, 0]];
+/// A face of three equal points.
+pub const O: [Point; 3] = [[0, 0, 0]; 3];
+
+fn record(kind: u8, start: [Point; 4], end: [Point; 4]) -> Record {
+    Record {
+        kind,
+        flags: 0,
+        byte2: 0,
+        byte3: 0,
+        id: 1,
+        separation: 0,
+        tolerance: 16,
+        budget: 1000,
+        start,
+        end,
+    }
+}
+
+/// Vertex-face: d 0, tolerance 16, budget 1,000.
+pub fn vf(start: [Point; 4], end: [Point; 4]) -> Record {
+    record(VERTEX_FACE, start, end)
+}
+
+/// Edge-edge: d 0, tolerance 16, budget 1,000.
+pub fn ee(start: [Point; 4], end: [Point; 4]) -> Record {
+    record(EDGE_EDGE, start, end)
+}
+
+/// A point that moves against a still face.
+pub fn falls(from: Point, to: Point, face: [Point; 3]) -> Record {
+    let [a, b, c] = face;
+    vf([from, a, b, c], [to, a, b, c])
+}
+
+/// The first case of the berth examples: P, T, tolerance 999.
+pub fn first_case() -> Record {
+    Record { tolerance: 999, ..falls([0, 0, 1000], [0, 0, -1000], T) }
+}
+
+/// Every coordinate times a factor.
+pub fn times(factor: i32, points: [Point; 4]) -> [Point; 4] {
+    points.map(|point| point.map(|coordinate| factor * coordinate))
+}
+
+fn corner(numbers: [u32; 5]) -> Corner {
+    let [t, u, v, excess, count] = numbers;
+    Corner { t, u, v, excess, count }
+}
+
+/// MET with t, u, v, excess, count.
+pub fn met(numbers: [u32; 5]) -> Answer {
+    Answer::Met(corner(numbers))
+}
+
+pub fn spent(numbers: [u32; 5]) -> Answer {
+    Answer::Spent(corner(numbers))
+}
+
+pub fn room(numbers: [u32; 5]) -> Answer {
+    Answer::Room(corner(numbers))
+}
+
+pub fn clear(count: u32) -> Answer {
+    Answer::Clear { count }
+}
+
+/// The answer with 4,096 words.
+pub fn ask(record: Record) -> Answer {
+    search(&record, 4096)
+}

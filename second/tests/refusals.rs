@@ -1,0 +1,103 @@
+//! Refusals 1 to 7: the ranges' ends, and the order.
+
+mod common;
+
+use common::*;
+use second::record::Record;
+use second::refusals::{check_record, Refusal};
+use second::search::{search, Answer};
+
+/// A record and the refusal that it alone deserves.
+fn spoiled(number: u32) -> Record {
+    let mut record = first_case();
+    spoil(&mut record, number);
+    record
+}
+
+fn spoil(record: &mut Record, number: u32) {
+    match number {
+        1 => record.kind = 3,
+        2 => record.flags = 2,
+        3 => record.start[2][0] = i32::MIN,
+        4 => record.separation = 65_537,
+        5 => record.tolerance = 15,
+        6 => record.budget = 0,
+        _ => panic!("not a record's refusal"),
+    }
+}
+
+fn number(answer: Answer) -> u32 {
+    match answer {
+        Answer::Refused(refusal) => refusal.number(),
+        _ => 0,
+    }
+}
+
+#[test]
+fn each_alone() {
+    for n in 1..=6 {
+        assert_eq!(number(ask(spoiled(n))), n);
+        assert_eq!(check_record(&spoiled(n)).map_err(Refusal::number), Err(n));
+    }
+    assert_eq!(number(search(&first_case(), 1)), 7);
+}
+
+#[test]
+fn lowest_of_every_combination() {
+    for chosen in 1_u32..128 {
+        let mut record = first_case();
+        for n in (1..=6).filter(|n| chosen >> (n - 1) & 1 == 1) {
+            spoil(&mut record, n);
+        }
+        let words = if chosen >> 6 == 1 { 1_048_577 } else { 4096 };
+        assert_eq!(number(search(&record, words)), chosen.trailing_zeros() + 1);
+    }
+}
+
+#[test]
+fn kinds_and_flags() {
+    for kind in 0..=255 {
+        let expected = if kind == 1 || kind == 2 { 0 } else { 1 };
+        assert_eq!(number(ask(Record { kind, ..first_case() })), expected);
+    }
+    for flags in 0..=255 {
+        let expected = if flags <= 1 { 0 } else { 2 };
+        assert_eq!(number(ask(Record { flags, ..first_case() })), expected);
+    }
+    for byte in 1..=255 {
+        assert_eq!(number(ask(Record { byte2: byte, ..first_case() })), 2);
+        assert_eq!(number(ask(Record { byte3: byte, ..first_case() })), 2);
+    }
+}
+
+#[test]
+fn every_coordinate_is_checked() {
+    let cases = [(M, 0), (-M, 0), (M + 1, 3), (-M - 1, 3), (i32::MIN, 3), (i32::MAX, 3)];
+    for place in 0..24 {
+        for (coordinate, expected) in cases {
+            for flags in [0, 1] {
+                let mut record = Record { flags, ..first_case() };
+                let points = if place < 12 { &mut record.start } else { &mut record.end };
+                points[place % 12 / 3][place % 3] = coordinate;
+                assert_eq!(number(ask(record)), expected);
+            }
+        }
+    }
+}
+
+#[test]
+fn ends_of_the_other_ranges() {
+    for (separation, expected) in [(0, 0), (65_536, 0), (65_537, 4), (u32::MAX, 4)] {
+        assert_eq!(number(ask(Record { separation, ..first_case() })), expected);
+    }
+    for (tolerance, expected) in [(0, 5), (15, 5), (16, 0), (M as u32, 0), (M as u32 + 1, 5)] {
+        assert_eq!(number(ask(Record { tolerance, ..first_case() })), expected);
+    }
+    for (budget, expected) in [(0, 6), (1, 0), (1_000_000, 0), (1_000_001, 6), (u32::MAX, 6)] {
+        assert_eq!(number(ask(Record { budget, ..first_case() })), expected);
+    }
+    let lengths = [(0, 7), (1, 7), (2, 0), (3, 0), (1_048_576, 0), (1_048_577, 7), (usize::MAX, 7)];
+    for (words, expected) in lengths {
+        assert_eq!(number(search(&first_case(), words)), expected);
+    }
+}
