@@ -2,7 +2,9 @@
 
 pub mod file;
 pub mod gap;
+pub mod gen;
 pub mod record;
 pub mod refusals;
+pub mod rng;
 pub mod search;
 pub mod text;

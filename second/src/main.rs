@@ -3,9 +3,15 @@
 use std::io::{Read, Write};
 use std::process::ExitCode;
 
+use second::gen::{flavours, generate, queries::queries, words::words};
 use second::text::{sweep, MOST_INPUT, SWEEP_WORDS};
 
-const USAGE: &str = "usage: second sweep [WORDS]";
+const USAGE: &str = "\
+usage: second sweep [WORDS]         answers the query file on standard input
+       second gen SEED FLAVOUR      writes a query file
+       second flavours              lists the flavours
+       second words SEED FLAVOUR    queue lengths worth trying on that file
+       second queries SEED N        cheap queries and their answers, one a line";
 
 fn main() -> ExitCode {
     let arguments: Vec<String> = std::env::args().skip(1).collect();
@@ -24,15 +30,30 @@ fn run(arguments: &[&str]) -> Option<Vec<u8>> {
     match arguments {
         ["sweep"] => Some(sweep(&input(), SWEEP_WORDS).into_bytes()),
         ["sweep", words] => Some(sweep(&input(), words.parse().ok()?).into_bytes()),
+        ["gen", seed, flavour] => generate(seed.parse().ok()?, flavour),
+        ["flavours"] => Some((flavours().join("\n") + "\n").into_bytes()),
+        ["words", seed, flavour] => Some(spaced(&words(seed.parse().ok()?, flavour)?)),
+        ["queries", seed, number] => {
+            Some(queries(seed.parse().ok()?, number.parse().ok()?).into_bytes())
+        }
         _ => None,
     }
 }
 
-/// Standard input, but no more than tells that it is too long.
+/// One line of numbers.
+fn spaced(numbers: &[usize]) -> Vec<u8> {
+    let numbers: Vec<String> = numbers.iter().map(usize::to_string).collect();
+    (numbers.join(" ") + "\n").into_bytes()
+}
+
+/// Standard input, but no more kept than tells that it is too long.
 fn input() -> Vec<u8> {
     let mut bytes = Vec::new();
-    let mut limited = std::io::stdin().lock().take(MOST_INPUT as u64 + 1);
-    limited.read_to_end(&mut bytes).expect("standard input can be read");
+    let mut stdin = std::io::stdin().lock();
+    let kept = stdin.by_ref().take(MOST_INPUT as u64 + 1).read_to_end(&mut bytes);
+    // The rest is read and dropped, so that whoever writes it is not cut off.
+    let dropped = std::io::copy(&mut stdin, &mut std::io::sink());
+    kept.and(dropped).expect("standard input can be read");
     bytes
 }
 

@@ -27,6 +27,18 @@ pub enum Answer {
     Refused(Refusal),
 }
 
+impl Answer {
+    /// Boxes checked; a refused search checks none.
+    pub fn count(&self) -> u32 {
+        match self {
+            Answer::Met(corner) | Answer::Spent(corner) => corner.count,
+            Answer::Room(corner) | Answer::Floor(corner) => corner.count,
+            Answer::Clear { count } => *count,
+            Answer::Refused(_) => 0,
+        }
+    }
+}
+
 /// What a search went through; the generators aim at it, no answer depends on it.
 #[derive(Clone, Debug, PartialEq, Eq)]
 pub struct Trace {
@@ -225,7 +237,7 @@ fn split_parameter(depths: [u32; 3], differences: &[i128; 3]) -> usize {
         }
         // Times 2 to 20, so that the division by 2 to the depth leaves no rest.
         let weight = differences[parameter] * (Q >> depths[parameter]);
-        if best.map_or(true, |(_, most)| weight > most) {
+        if best.is_none_or(|(_, most)| weight > most) {
             best = Some((parameter, weight));
         }
     }

@@ -1,0 +1,169 @@
+//! Refused records, damaged files and cut files.
+
+use super::shapes::tiny;
+use super::{file_of, with_ids};
+use crate::file::{fetch, MOST_RECORDS, TRAILER_BYTES};
+use crate::record::Record;
+use crate::refusals::{MOST_BUDGET, MOST_COORDINATE as M, MOST_SEPARATION, MOST_TOLERANCE};
+use crate::rng::Rng;
+
+/// Mostly a record with one refusal or several, else one at the ends of the ranges.
+pub fn maybe_refused(rng: &mut Rng) -> Record {
+    if rng.one_in(6) {
+        return at_the_ends(rng);
+    }
+    refused(rng)
+}
+
+/// Refusals 1 to 6: one alone, or any set.
+pub fn refused(rng: &mut Rng) -> Record {
+    let chosen = if rng.one_in(2) { 1 << rng.below(6) } else { 1 + rng.below(63) };
+    let mut record = tiny(rng);
+    for number in (1..=6).filter(|number| chosen >> (number - 1) & 1 == 1) {
+        spoil(rng, &mut record, number);
+    }
+    record
+}
+
+fn spoil(rng: &mut Rng, record: &mut Record, number: u32) {
+    match number {
+        1 => record.kind = rng.pick(&[0, 3, 4, 128, 129, 255]),
+        2 => spoil_flags(rng, record),
+        3 => spoil_coordinate(rng, record),
+        4 => record.separation = rng.pick(&[MOST_SEPARATION + 1, 1 << 31, u32::MAX]),
+        5 => record.tolerance = rng.pick(&[0, 1, 15, MOST_TOLERANCE + 1, 1 << 31, u32::MAX]),
+        _ => record.budget = rng.pick(&[0, MOST_BUDGET + 1, 1 << 31, u32::MAX]),
+    }
+}
+
+fn spoil_flags(rng: &mut Rng, record: &mut Record) {
+    let byte = rng.pick(&[1, 2, 0x80, 0xFF]);
+    match rng.below(4) {
+        0 => record.flags |= rng.pick(&[2, 4, 8, 16, 32, 64, 128, 0xFE]),
+        1 => record.byte2 = byte,
+        2 => record.byte3 = byte,
+        _ => (record.flags, record.byte2, record.byte3) = (0xFF, byte, byte),
+    }
+}
+
+fn spoil_coordinate(rng: &mut Rng, record: &mut Record) {
+    let coordinate = rng.pick(&[M + 1, -M - 1, i32::MIN, i32::MAX, i32::MIN + 1, 1 << 30]);
+    let points = if rng.one_in(2) { &mut record.start } else { &mut record.end };
+    points[rng.below(4)][rng.below(3)] = coordinate;
+}
+
+/// Valid, with numbers at the very ends of their ranges.
+fn at_the_ends(rng: &mut Rng) -> Record {
+    let mut record = tiny(rng);
+    // A large budget was fit for the numbers that change here.
+    record.budget = record.budget.min(400);
+    match rng.below(5) {
+        0 => record.separation = MOST_SEPARATION,
+        1 => record.tolerance = MOST_TOLERANCE,
+        2 => record.tolerance = 16,
+        3 => record.budget = 1,
+        _ => {
+            let points = if rng.one_in(2) { &mut record.start } else { &mut record.end };
+            points[rng.below(4)][rng.below(3)] = rng.pick(&[-M, M]);
+        }
+    }
+    record
+}
+
+/// A few records and a right trailer, to be damaged.
+fn sound(rng: &mut Rng) -> Vec<u8> {
+    let count = rng.below(12);
+    let records: Vec<Record> = (0..count).map(|_| quick(rng)).collect();
+    let leading = rng.pick(&[0, 0, 1, 116, 150]);
+    let mut file = rng.bytes(leading);
+    file.extend(file_of(&with_ids(rng, records)));
+    file
+}
+
+/// A record with a small budget, as the damage may make its search a long one.
+fn quick(rng: &mut Rng) -> Record {
+    let record = tiny(rng);
+    Record { budget: record.budget.min(200), ..record }
+}
+
+/// Wrong trailers in every combination, or flipped bits.
+pub fn damaged(rng: &mut Rng) -> Vec<u8> {
+    let mut file = sound(rng);
+    match rng.below(4) {
+        0 | 1 => {
+            let chosen = 1 + rng.below(15);
+            damage_trailer(rng, &mut file, chosen);
+        }
+        2 => flip(rng, &mut file, TRAILER_BYTES),
+        _ => flip_anywhere(rng, &mut file),
+    }
+    file
+}
+
+/// Flips bits of the whole file, but gives no record a budget that takes long.
+fn flip_anywhere(rng: &mut Rng, file: &mut Vec<u8>) {
+    let mut flipped = file.clone();
+    flip(rng, &mut flipped, file.len());
+    let slow = |n: u32| fetch(&flipped, n).is_ok_and(|record| record.budget > 2000);
+    if !(0..MOST_RECORDS).any(slow) {
+        *file = flipped;
+    }
+}
+
+/// Bits 0 to 3 of the choice: mark, edition, count, back pointer.
+fn damage_trailer(rng: &mut Rng, file: &mut [u8], chosen: usize) {
+    let at = file.len() - TRAILER_BYTES;
+    let trailer = &mut file[at..];
+    if chosen & 1 != 0 {
+        trailer[rng.below(4)] ^= rng.pick(&[1, 0x20, 0x80, 0xFF]);
+    }
+    if chosen & 2 != 0 {
+        trailer[4 + rng.below(4)] ^= rng.pick(&[1, 2, 3, 0x80]);
+    }
+    let mut count = crate::record::word_at(trailer, 12);
+    if chosen & 4 != 0 {
+        let near = [count.wrapping_sub(1), count + 1, count + 2, 0];
+        let far = [4095, 4096, 4097, 4098, 1 << 31, u32::MAX, 37_025_581];
+        count = if rng.one_in(2) { rng.pick(&near) } else { rng.pick(&far) };
+        trailer[12..].copy_from_slice(&count.to_le_bytes());
+        // A pointer that agrees with the wrong count tells the two halves of 12 apart.
+        if rng.one_in(2) {
+            trailer[8..12].copy_from_slice(&count.wrapping_mul(116).to_le_bytes());
+        }
+    }
+    if chosen & 8 != 0 {
+        let back = count.wrapping_mul(116);
+        let shift = [1, 115, 116, 117, 1 << 16, 1 << 31, u32::MAX, u32::MAX - 115];
+        let back = back.wrapping_add(rng.pick(&shift));
+        trailer[8..12].copy_from_slice(&back.to_le_bytes());
+    }
+}
+
+/// Flips one to four bits among the last bytes.
+fn flip(rng: &mut Rng, file: &mut [u8], last: usize) {
+    for _ in 0..1 + rng.below(4) {
+        let place = file.len() - 1 - rng.below(last);
+        file[place] ^= 1 << rng.below(8);
+    }
+}
+
+/// A file with bytes cut off before, behind or within, or with some put behind.
+pub fn truncated(rng: &mut Rng) -> Vec<u8> {
+    let mut file = sound(rng);
+    let few = rng.pick(&[1, 2, 15, 16, 17, 115, 116, 117]).min(file.len());
+    let any = rng.below(file.len() + 1);
+    let cut = rng.pick(&[few, any]);
+    match rng.below(6) {
+        0..=2 => file.drain(..cut),
+        3 => file.drain(file.len() - cut..),
+        4 => {
+            let from = rng.below(file.len() - cut + 1);
+            file.drain(from..from + cut)
+        }
+        _ => {
+            file.extend(rng.bytes(few));
+            file.drain(..0)
+        }
+    };
+    file
+}

@@ -1,0 +1,103 @@
+//! Cheap queries with their answers, as plain numbers for a checker that reads text.
+
+use super::bad::refused;
+use super::degenerate::degenerate;
+use super::shapes::{extreme, full, tiny};
+use super::tuned::brick;
+use crate::record::Record;
+use crate::refusals::MOST_WORDS;
+use crate::rng::Rng;
+use crate::search::{search, search_traced, Answer, Corner};
+
+/// The most boxes that a query may need.
+const CHEAP: u32 = 60;
+
+/// So many lines: words, the record's fields, then the answer's seven numbers.
+pub fn queries(seed: u64, number: usize) -> String {
+    let mut rng = Rng::new(seed, "queries");
+    (0..number).map(|_| line(&mut rng)).collect()
+}
+
+fn line(rng: &mut Rng) -> String {
+    let (words, mut record) = if rng.one_in(6) { refused_query(rng) } else { cheap_query(rng) };
+    record.id = rng.pick(&[0, 1, 77, u32::MAX]);
+    let numbers = fields(words, &record).into_iter().chain(told(&search(&record, words)));
+    let numbers: Vec<String> = numbers.map(|number| number.to_string()).collect();
+    numbers.join(" ") + "\n"
+}
+
+fn fields(words: usize, record: &Record) -> Vec<i64> {
+    let bytes = [record.kind, record.flags, record.byte2, record.byte3];
+    let numbers = [record.id, record.separation, record.tolerance, record.budget];
+    let coordinates = record.start.iter().chain(&record.end).flatten();
+    let mut fields = vec![words as i64];
+    fields.extend(bytes.map(i64::from));
+    fields.extend(numbers.map(i64::from));
+    fields.extend(coordinates.map(|coordinate| i64::from(*coordinate)));
+    fields
+}
+
+/// Word, t, u, v, excess, count, number of the refusal.
+fn told(answer: &Answer) -> [i64; 7] {
+    let with_corner = |word: i64, corner: &Corner| {
+        let [t, u, v] = [corner.t, corner.u, corner.v].map(i64::from);
+        [word, t, u, v, corner.excess.into(), corner.count.into(), 0]
+    };
+    match answer {
+        Answer::Refused(refusal) => [0, 0, 0, 0, 0, 0, refusal.number().into()],
+        Answer::Met(corner) => with_corner(1, corner),
+        Answer::Clear { count } => [2, 0, 0, 0, 0, (*count).into(), 0],
+        Answer::Spent(corner) => with_corner(3, corner),
+        Answer::Room(corner) => with_corner(4, corner),
+        Answer::Floor(corner) => with_corner(5, corner),
+    }
+}
+
+/// Refusals 1 to 6, 7, or both.
+fn refused_query(rng: &mut Rng) -> (usize, Record) {
+    let bad_words = rng.pick(&[0, 1, MOST_WORDS + 1, 1 << 40]);
+    match rng.below(4) {
+        0 => (bad_words, cheap(rng).0),
+        1 => (bad_words, refused(rng)),
+        _ => (rng.pick(&[2, 64, 4096, MOST_WORDS]), refused(rng)),
+    }
+}
+
+/// A cheap record and a queue, often one around its exact need.
+fn cheap_query(rng: &mut Rng) -> (usize, Record) {
+    let (record, peak) = cheap(rng);
+    let words = match rng.below(4) {
+        0 => 4096,
+        1 => rng.pick(&[2, 3, 7, 8, 31, MOST_WORDS]),
+        _ => (2 * peak - 2 + rng.below(4)).max(2),
+    };
+    (words, record)
+}
+
+/// A record that needs few boxes, and the boxes of its largest level.
+fn cheap(rng: &mut Rng) -> (Record, usize) {
+    let base = match rng.below(9) {
+        0..=3 => tiny(rng),
+        4 | 5 => degenerate(rng),
+        6 => full(rng),
+        7 => extreme(rng),
+        _ => brick(rng, CHEAP),
+    };
+    let mut record = Record { budget: CHEAP + 1, ..base };
+    let (answer, trace) = search_traced(&record, MOST_WORDS);
+    if dull(&answer) && !rng.one_in(4) {
+        return cheap(rng);
+    }
+    let count = answer.count();
+    record.budget = if count > CHEAP || rng.one_in(4) {
+        1 + rng.below(CHEAP as usize) as u32
+    } else {
+        rng.pick(&[count, count + 1, (count - 1).max(1), 1000, 1_000_000])
+    };
+    (record, trace.peak)
+}
+
+/// Answers at the first box are many by chance; most are left out.
+fn dull(answer: &Answer) -> bool {
+    answer.count() <= 1
+}

@@ -1,0 +1,137 @@
+//! Records aimed at the exact count of a budget and at the exact need of a queue.
+
+use super::degenerate::degenerate;
+use super::shapes::{extreme, full, tiny};
+use super::{file_of, with_ids};
+use crate::record::{Record, EDGE_EDGE};
+use crate::refusals::MOST_WORDS;
+use crate::rng::Rng;
+use crate::search::search_traced;
+
+/// Budgets at a count where something happens, one below and one above.
+pub fn budget(rng: &mut Rng) -> Vec<u8> {
+    let enough = 12 + rng.below(20);
+    let mut records = Vec::new();
+    while records.len() < enough {
+        let base = any_shape(rng);
+        let count = telling_count(rng, &base);
+        for budget in [count - 1, count, count + 1] {
+            if budget > 0 {
+                records.push(Record { budget, ..base });
+            }
+        }
+    }
+    file_of(&with_ids(rng, records))
+}
+
+fn any_shape(rng: &mut Rng) -> Record {
+    match rng.below(8) {
+        0..=2 => tiny(rng),
+        3 | 4 => degenerate(rng),
+        5 => full(rng),
+        6 => brick(rng, 400),
+        _ => extreme(rng),
+    }
+}
+
+/// The answer's count, or the count at which a level ends.
+fn telling_count(rng: &mut Rng, base: &Record) -> u32 {
+    let (answer, trace) = search_traced(&Record { budget: 400, ..*base }, 4096);
+    if trace.level_ends.is_empty() || !rng.one_in(3) {
+        return answer.count();
+    }
+    rng.pick(&trace.level_ends)
+}
+
+/// Levels of several boxes, and one record whose largest level is about 2,048 boxes.
+pub fn queue(rng: &mut Rng) -> Vec<u8> {
+    let count = 9 + rng.below(15);
+    let mut records: Vec<Record> = (0..count).map(|_| crowded(rng)).collect();
+    // Among the first few, where the lengths worth trying are taken from.
+    let place = rng.below(3);
+    records.insert(place, heavy(rng));
+    file_of(&with_ids(rng, records))
+}
+
+/// A record with a level of three boxes at least.
+pub fn crowded(rng: &mut Rng) -> Record {
+    loop {
+        let budget = rng.between(20, 500) as u32;
+        let record = if rng.one_in(3) { brick(rng, budget) } else { any_shape(rng) };
+        // A large budget is meant for the usual queue; a longer one could let it run on.
+        let record = Record { budget: record.budget.min(2000), ..record };
+        if peak(&record) >= 3 {
+            return record;
+        }
+    }
+}
+
+/// Boxes of the largest level when the queue leaves room.
+pub fn peak(record: &Record) -> usize {
+    search_traced(record, MOST_WORDS).1.peak
+}
+
+/// Around the half of 4,096 words, just enough or just too much for it.
+fn heavy(rng: &mut Rng) -> Record {
+    let wanted = rng.pick(&[(1900, 2048), (2049, 2300)]);
+    let family = rng.pick(&[|rng: &mut Rng| brick(rng, 5000), parallel]);
+    let mut record = family(rng);
+    for _ in 0..6 {
+        if (wanted.0..=wanted.1).contains(&peak(&record)) {
+            break;
+        }
+        record = family(rng);
+    }
+    record
+}
+
+/// Parallel edges that meet along a line, whose levels are of many sizes.
+fn parallel(rng: &mut Rng) -> Record {
+    let length = rng.between(1800, 2400);
+    let height = rng.between(900, 1100);
+    let shift = rng.between(0, 40);
+    let still = [[shift, 0, 0], [shift + length, 0, 0]];
+    let moving = |z: i32| [[0, 0, z], [length, 0, z], still[0], still[1]];
+    Record {
+        kind: EDGE_EDGE,
+        flags: 0,
+        byte2: 0,
+        byte3: 0,
+        id: 0,
+        // A wider band of contact makes larger levels, by a few boxes at a time.
+        separation: rng.between(0, 24) as u32,
+        tolerance: 16 + rng.below(10) as u32,
+        budget: 9000,
+        start: moving(height),
+        end: moving(-height),
+    }
+}
+
+/// Crossing edges where F is one axis a parameter, so that nearly every box survives.
+pub fn brick(rng: &mut Rng, budget: u32) -> Record {
+    let d = rng.pick(&[64, 100, 999, 4096, 30_000]);
+    let spread = rng.pick(&[0, 0, 1, d / 8, d / 3]);
+    let mut span = || rng.pick(&[2 * d, d, d / 2]) + rng.between(0, spread);
+    let (across, along) = (span(), span());
+    let from = d + 1 + rng.between(0, spread);
+    let to = -d - rng.between(0, spread);
+    let (low, left) = (rng.pick(&[-d, -across / 2]), rng.pick(&[-d, -along / 2]));
+    let still = [[0, 0, -left], [0, 0, -left - along]];
+    let moving = |x: i32| [[x, low, 0], [x, low + across, 0], still[0], still[1]];
+    let halvings = 1 + rng.below(5);
+    let turn = rng.below(3);
+    // Turning the axes alike in every point changes nothing but which axis is which.
+    let turned = |x: i32| moving(x).map(|p| [p[turn], p[(turn + 1) % 3], p[(turn + 2) % 3]]);
+    Record {
+        kind: EDGE_EDGE,
+        flags: 0,
+        byte2: 0,
+        byte3: 0,
+        id: 0,
+        separation: d as u32,
+        tolerance: (((2 * d) >> halvings) + rng.between(0, 3)).max(16) as u32,
+        budget,
+        start: turned(from),
+        end: turned(to),
+    }
+}

@@ -1,0 +1,200 @@
+//! The generators: what each flavour promises.
+
+use second::file::{fetch, open, record_at};
+use second::gen::{flavours, generate, queries::queries, words::words};
+use second::record::Record;
+use second::refusals::Refusal;
+use second::search::{search, search_traced, Answer};
+use second::text::sweep;
+
+const SEEDS: u64 = 30;
+
+fn files(flavour: &str) -> Vec<Vec<u8>> {
+    (0..SEEDS).map(|seed| generate(seed, flavour).unwrap()).collect()
+}
+
+fn records(file: &[u8]) -> Vec<Record> {
+    let count = open(file).map_or(0, |opened| opened.count);
+    (0..count).map(|n| record_at(file, n).unwrap()).collect()
+}
+
+/// The numbers 8 to 12 that opening the files of a flavour gives, 0 for an opened one.
+fn opened(flavour: &str) -> Vec<u32> {
+    let refusal = |file: &Vec<u8>| open(file).map_or_else(Refusal::number, |_| 0);
+    let mut numbers: Vec<u32> = files(flavour).iter().map(refusal).collect();
+    numbers.sort();
+    numbers.dedup();
+    numbers
+}
+
+fn is_room(answer: Answer) -> bool {
+    matches!(answer, Answer::Room(_))
+}
+
+#[test]
+fn seed_and_flavour_decide_the_file() {
+    for flavour in flavours() {
+        assert_eq!(generate(3, flavour), generate(3, flavour));
+        assert!((0..SEEDS).any(|seed| generate(seed, flavour) != generate(3, flavour)));
+    }
+    assert_ne!(generate(3, "tiny"), generate(3, "full"));
+    assert_eq!(generate(3, "no such flavour"), None);
+}
+
+#[test]
+fn shapes_are_valid_files_of_valid_records() {
+    for flavour in ["tiny", "full", "degenerate", "extreme", "budget", "queue"] {
+        for file in files(flavour) {
+            let count = open(&file).unwrap().count;
+            assert!((10..=40).contains(&count));
+            assert!((0..count).all(|n| fetch(&file, n).is_ok()));
+        }
+    }
+}
+
+#[test]
+fn shapes_bring_every_word_but_floor() {
+    let mut seen = [0; 3];
+    for flavour in ["tiny", "full", "degenerate", "extreme"] {
+        for record in files(flavour).iter().flat_map(|file| records(file)) {
+            match search(&record, 4096) {
+                Answer::Met(_) => seen[0] += 1,
+                Answer::Clear { .. } => seen[1] += 1,
+                Answer::Spent(_) => seen[2] += 1,
+                other => panic!("{other:?}"),
+            }
+        }
+        assert!(seen.iter().all(|number| *number >= 20), "{flavour} {seen:?}");
+        seen = [0; 3];
+    }
+    let queue = files("queue");
+    assert!(queue.iter().flat_map(|file| records(file)).any(|r| is_room(search(&r, 4096))));
+}
+
+#[test]
+fn budgets_stand_on_both_sides_of_an_answer() {
+    let mut turns = 0;
+    for file in files("budget") {
+        for pair in records(&file).windows(2) {
+            let spent = |record| matches!(search(record, 4096), Answer::Spent(_));
+            let next = Record { budget: pair[0].budget + 1, id: pair[1].id, ..pair[0] };
+            turns += usize::from(next == pair[1] && spent(&pair[0]) && !spent(&pair[1]));
+        }
+    }
+    assert!(turns >= SEEDS as usize, "{turns}");
+}
+
+#[test]
+fn peak_is_the_exact_need_of_the_queue() {
+    for record in files("queue").iter().flat_map(|file| records(file)) {
+        let (answer, trace) = search_traced(&record, 1 << 20);
+        assert!(trace.peak >= 2);
+        assert_eq!(search(&record, 2 * trace.peak), answer);
+        assert!(is_room(search(&record, 2 * trace.peak - 1)));
+    }
+}
+
+#[test]
+fn widths_of_2_to_63_are_among_the_extreme() {
+    let m = 1_048_576;
+    let wide = |record: &Record| {
+        (0..3).any(|axis| {
+            let starts = [0, 1, 2, 3].map(|n| record.start[n][axis]);
+            let ends = [0, 1, 2, 3].map(|n| -record.end[n][axis]);
+            starts == ends && (starts == [m, m, -m, -m] || starts == [-m, -m, m, m])
+        })
+    };
+    assert!(files("extreme").iter().flat_map(|file| records(file)).any(|r| wide(&r)));
+}
+
+#[test]
+fn refusals_are_all_there() {
+    let mut seen = [0; 7];
+    for record in files("refusals").iter().flat_map(|file| records(file)) {
+        if let Answer::Refused(refusal) = search(&record, 4096) {
+            seen[refusal.number() as usize] += 1;
+        }
+    }
+    assert!(seen[1..].iter().all(|number| *number > 0), "{seen:?}");
+}
+
+#[test]
+fn damage_is_of_every_sort() {
+    assert_eq!(opened("damaged"), [0, 9, 10, 11, 12]);
+    assert_eq!(opened("truncated"), [0, 8, 9, 12]);
+    assert_eq!(opened("empty"), [0, 8, 12]);
+    assert_eq!(opened("leading"), [0]);
+}
+
+#[test]
+fn sizes_are_exact() {
+    let many = generate(1, "many").unwrap();
+    assert_eq!(open(&many).unwrap().count, 4096);
+    assert_eq!(sweep(&many, 4096), "FILE 15\n");
+    let most = generate(1, "most").unwrap();
+    assert_eq!(open(&most).unwrap().count, 564);
+    assert!(sweep(&most, 4096).contains("TOTAL 564 "));
+    for file in files("edge65536") {
+        assert_eq!(file.len(), 65_536);
+    }
+    assert!(opened("edge65536").contains(&0));
+    for file in files("edge65537") {
+        assert_eq!(file.len(), 65_537);
+        assert_eq!(sweep(&file, 4096), "FILE 15\n");
+    }
+}
+
+#[test]
+fn lengths_worth_trying() {
+    for flavour in flavours() {
+        let lengths = words(5, flavour).unwrap();
+        assert!([0, 1, 2, 3, 4096].iter().all(|length| lengths.contains(length)));
+        assert!(lengths.len() <= 16);
+        assert!(lengths.windows(2).all(|pair| pair[0] < pair[1]));
+    }
+    let first = fetch(&generate(5, "queue").unwrap(), 0).unwrap();
+    let need = 2 * search_traced(&first, 1 << 20).1.peak;
+    let lengths = words(5, "queue").unwrap();
+    assert!((need - 2..=need + 1).all(|length| lengths.contains(&length)));
+    assert_eq!(words(5, "no such flavour"), None);
+}
+
+/// The record and the queue that a line of numbers tells.
+fn query(numbers: &[i64]) -> (usize, Record) {
+    let point = |from: usize| [0, 1, 2].map(|axis| numbers[from + axis] as i32);
+    let record = Record {
+        kind: numbers[1] as u8,
+        flags: numbers[2] as u8,
+        byte2: numbers[3] as u8,
+        byte3: numbers[4] as u8,
+        id: numbers[5] as u32,
+        separation: numbers[6] as u32,
+        tolerance: numbers[7] as u32,
+        budget: numbers[8] as u32,
+        start: [9, 12, 15, 18].map(point),
+        end: [21, 24, 27, 30].map(point),
+    };
+    (numbers[0] as usize, record)
+}
+
+#[test]
+fn queries_tell_the_answer_and_bring_every_sort() {
+    let (mut words_seen, mut refusals_seen) = ([0; 6], [0; 8]);
+    for line in queries(1, 2000).lines() {
+        let numbers: Vec<i64> = line.split(' ').map(|n| n.parse().unwrap()).collect();
+        assert_eq!(numbers.len(), 40);
+        let (words, record) = query(&numbers);
+        let [t, u, v, excess, count] = [34, 35, 36, 37, 38].map(|n| numbers[n] as u32);
+        let word = ["REFUSED", "MET", "CLEAR", "SPENT", "ROOM", "FLOOR"][numbers[33] as usize];
+        let mut expected = format!("9 {word} {t} {u} {v} {excess} {count}\n");
+        if word == "REFUSED" {
+            expected = format!("9 REFUSED {}\n", numbers[39]);
+        }
+        assert_eq!(second::text::line(9, &search(&record, words)), expected);
+        assert!(count <= 60);
+        words_seen[numbers[33] as usize] += 1;
+        refusals_seen[numbers[39] as usize] += 1;
+    }
+    assert!(words_seen[..5].iter().all(|number| *number >= 100), "{words_seen:?}");
+    assert!(refusals_seen[1..].iter().all(|number| *number >= 10), "{refusals_seen:?}");
+}
