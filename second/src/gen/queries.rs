@@ -55,7 +55,7 @@ fn told(answer: &Answer) -> [i64; 7] {
 
 /// Refusals 1 to 6, 7, or both.
 fn refused_query(rng: &mut Rng) -> (usize, Record) {
-    let bad_words = rng.pick(&[0, 1, MOST_WORDS + 1, 1 << 40]);
+    let bad_words = rng.pick(&[0, 1, MOST_WORDS + 1]);
     match rng.below(4) {
         0 => (bad_words, cheap(rng).0),
         1 => (bad_words, refused(rng)),

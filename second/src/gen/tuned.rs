@@ -54,7 +54,7 @@ pub fn queue(rng: &mut Rng) -> Vec<u8> {
 }
 
 /// A record with a level of three boxes at least.
-pub fn crowded(rng: &mut Rng) -> Record {
+fn crowded(rng: &mut Rng) -> Record {
     loop {
         let budget = rng.between(20, 500) as u32;
         let record = if rng.one_in(3) { brick(rng, budget) } else { any_shape(rng) };
