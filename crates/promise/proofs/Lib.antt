@@ -1,0 +1,2 @@
+-- The proofs, from the ground up.
+pub mod Line

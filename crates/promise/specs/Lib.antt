@@ -1,0 +1,2 @@
+-- What the written search promises, over the definitions of `rules`; that it does is proved in ../proofs.
+pub mod Promise

@@ -1,0 +1,48 @@
+-- What an answer promises of the record that was searched (demand 3). Read `Place`, `OnBodies` and `Contact` in rules/specs/Gap.antt and `told` in
+-- rules/specs/Answers.antt, then this page; no more is needed. proofs/Demands.antt has the theorem:
+--     promised : (r : Record) (words : ℕ) → Promised r (told (search r words))
+use Prim.Native.Nat.{ℕ, _+_, _*_, _≤_}
+use mathlib.Core.Path.{_≡_}
+use mathlib.Core.Bool.{Bool, _||_}
+use lib.IntN.{natAbs}
+use lib.Dec.{T, eqb}
+use Rattle.rules.specs.declared.Record.{Record}
+use Rattle.rules.specs.declared.Told.{Told}
+use Rattle.rules.specs.Numbers.{parts}
+use Rattle.rules.specs.Gap.{Axis, gapOn, sided, isVertexFace, separationOn, Place, OnBodies, Contact}
+
+-- MET, SPENT, ROOM and FLOOR (words 1, 3, 4, 5) answer a moment
+abbrev pub hasMoment : Told → Bool
+hasMoment a = eqb (a .word) 1 || eqb (a .word) 3 || eqb (a .word) 4 || eqb (a .word) 5
+
+-- the answered moment and place: "t, u, v count 1/1,048,576 parts"
+abbrev pub answered : Told → Place
+answered a = record { q = parts; a = a .t; b = a .u; c = a .v }
+
+-- |F| at a place is at most the separation and so many units more, on each axis
+abbrev pub Within : Record → ℕ → Place → Type 0
+Within r more m =
+    (axis : Axis) → natAbs (gapOn (isVertexFace r) (sided r) axis (m .q) (m .a) (m .b) (m .c)) ≤ (separationOn r axis + more) * (m .q * m .q)
+
+-- CLEAR (word 2): there is no contact, at no rational moment and place on the bodies
+abbrev pub Clear-is-clear : Record → Told → Type 0
+Clear-is-clear r a = a .word ≡ 2 → (m : Place) → OnBodies r m → Contact r m → ⊥
+
+-- a moment answered: no contact comes before it, t / parts ≤ a / q
+abbrev pub No-earlier : Record → Told → Type 0
+No-earlier r a = T (hasMoment a) → (m : Place) → OnBodies r m → Contact r m → a .t * m .q ≤ m .a * parts
+
+-- a moment answered: there the place is on the bodies, and |F| is at most the separation plus the excess
+abbrev pub There : Record → Told → Type 0
+There r a = T (hasMoment a) → OnBodies r (answered a) × Within r (a .excess) (answered a)
+
+-- MET (word 1): the excess is at most the tolerance
+abbrev pub Within-tolerance : Record → Told → Type 0
+Within-tolerance r a = a .word ≡ 1 → a .excess ≤ r .tolerance
+
+-- demand 3: all four
+pub record Promised (r : Record) (a : Told) : Type 0 where
+  pub clear-is-clear : Clear-is-clear r a
+  pub no-earlier : No-earlier r a
+  pub there : There r a
+  pub within-tolerance : Within-tolerance r a

@@ -1,0 +1,1 @@
+// What the written search promises. No code: the statements stand in specs/, their proofs in proofs/.
