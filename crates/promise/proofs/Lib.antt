@@ -1,2 +1,5 @@
 -- The proofs, from the ground up.
 pub mod Line
+pub mod Side
+pub mod Box
+pub mod Survive

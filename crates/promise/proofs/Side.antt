@@ -1,0 +1,70 @@
+-- The two sides of a number, so that what is said of the least and of the greatest is said once.
+use mathlib.Core.Path.{_≡_, refl, sym, ap, _∙_}
+use Prim.Native.Nat.{ℕ, zero, suc, _+_, _*_, _≤_, _<_}
+use native.Mathlib.Nat.{mul-zero}
+use native.Mathlib.Omega.{arith}
+use lib.IntN.{ℤ, pos, negsuc, negℤ, natAbs, _*ℤ_}
+use lib.Signed.{_≤ℤ_}
+use Rattle.whole.specs.Defs.{minZ, maxZ}
+use Rattle.whole.specs.View.{zed, abs-view, neg-up, neg-dn}
+use Rattle.whole.specs.Order.{≤ℤ-trans, min-le, le-max}
+use Rattle.rules.specs.Search.{lesser, greater}
+use Rattle.promise.proofs.Line.{Convex, ≤ℤ-times, ≤ℤ-cancel, at-least, at-most}
+
+-- `bounds m g`: g is on this side of m. `pick` takes of two the one that bounds both; `limit n` is what bounds every g of size n
+pub record Side : Type 1 where
+  pub pick : ℤ → ℤ → ℤ
+  pub bounds : ℤ → ℤ → Type 0
+  pub limit : ℕ → ℤ
+  pub first : (x y : ℤ) → bounds (pick x y) x
+  pub second : (x y : ℤ) → bounds (pick x y) y
+  pub trans : {x y z : ℤ} → bounds x y → bounds y z → bounds x z
+  pub times : (n : ℕ) {x y : ℤ} → bounds x y → bounds (pos n *ℤ x) (pos n *ℤ y)
+  pub cancel : (n : ℕ) → 0 < n → {x y : ℤ} → bounds (pos n *ℤ x) (pos n *ℤ y) → bounds x y
+  pub convex : (m : ℤ) → Convex (bounds m)
+  pub within : (g : ℤ) (n : ℕ) → natAbs g ≤ n → bounds g (limit n)
+  pub times-limit : (a n : ℕ) → pos a *ℤ limit n ≡ limit (a * n)
+
+pub lesser-bounds : (x y : ℤ) → (lesser x y ≤ℤ x) × (lesser x y ≤ℤ y)
+unfolding minZ
+lesser-bounds = min-le
+
+pub greater-bounds : (x y : ℤ) → (x ≤ℤ greater x y) × (y ≤ℤ greater x y)
+unfolding maxZ
+greater-bounds = le-max
+
+pub times-minus : (a n : ℕ) → pos a *ℤ negℤ (pos n) ≡ negℤ (pos (a * n))
+times-minus a zero = ap pos (mul-zero a) ∙ sym (ap (λ (n : ℕ). negℤ (pos n)) (mul-zero a))
+times-minus a (suc n) = refl
+
+abbrev pub from-least : Side
+from-least =
+    record {
+      pick = lesser;
+      bounds = λ m g. m ≤ℤ g;
+      limit = pos;
+      first = λ x y. lesser-bounds x y .0;
+      second = λ x y. lesser-bounds x y .1;
+      trans = ≤ℤ-trans;
+      times = ≤ℤ-times;
+      cancel = ≤ℤ-cancel;
+      convex = at-least;
+      within = λ g n h. omega (zed, abs-view g);
+      times-limit = λ a n. refl;
+    }
+
+abbrev pub to-greatest : Side
+to-greatest =
+    record {
+      pick = greater;
+      bounds = λ m g. g ≤ℤ m;
+      limit = λ n. negℤ (pos n);
+      first = λ x y. greater-bounds x y .0;
+      second = λ x y. greater-bounds x y .1;
+      trans = λ h g. ≤ℤ-trans g h;
+      times = λ n h. ≤ℤ-times n h;
+      cancel = λ n p h. ≤ℤ-cancel n p h;
+      convex = at-most;
+      within = λ g n h. omega (zed, abs-view g, neg-up (pos n), neg-dn (pos n));
+      times-limit = times-minus;
+    }
