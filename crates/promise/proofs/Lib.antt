@@ -3,3 +3,6 @@ pub mod Line
 pub mod Side
 pub mod Box
 pub mod Survive
+pub mod Lists
+pub mod Split
+pub mod Halves
