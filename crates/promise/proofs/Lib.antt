@@ -6,3 +6,5 @@ pub mod Survive
 pub mod Lists
 pub mod Split
 pub mod Halves
+pub mod First
+pub mod Corner
