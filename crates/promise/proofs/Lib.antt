@@ -8,3 +8,6 @@ pub mod Split
 pub mod Halves
 pub mod First
 pub mod Corner
+pub mod Levels
+pub mod Refused
+pub mod Demands

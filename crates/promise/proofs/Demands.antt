@@ -1,0 +1,85 @@
+-- Demand 3: what specs/Promise.antt states, proved of the written search of every record with every number of words.
+use mathlib.Core.Path.{_≡_, refl, sym, subst}
+use Prim.Native.Nat.{ℕ, zero, suc, _+_, _*_, _≤_, _<_}
+use native.Mathlib.Omega.{arith}
+use lib.Dec.{T}
+use Rattle.rules.specs.declared.Record.{Record}
+use Rattle.rules.specs.declared.Answer.{Answer}
+use Rattle.rules.specs.declared.Answer.the-variants.{Met, Clear, Spent, Room, Floor, Refused}
+use Rattle.rules.specs.Answers.{told}
+use Rattle.rules.specs.Gap.{Place, OnBodies, isVertexFace}
+use Rattle.rules.specs.Refusals.{searchRefusal}
+use Rattle.rules.specs.Search.{query, run, unless, search}
+use Rattle.promise.specs.Promise.{Clear-is-clear, No-earlier, There, Within-tolerance, Promised}
+use Rattle.promise.proofs.Halves.{Domain}
+use Rattle.promise.proofs.Levels.{Moment, Kept}
+use Rattle.promise.proofs.Refused.{accepted-kept}
+
+-- ---- from the search's question to the record
+module _ (r : Record) (words : ℕ) where
+  in-domain : {m : Place} → OnBodies r m → Domain (query r words) m
+  in-domain b = record { positive = b .positive; t = b .t; u = b .u; v = b .v; face = b .face }
+
+  on-bodies : {m : Place} → Domain (query r words) m → OnBodies r m
+  on-bodies d = record { positive = d .positive; t = d .t; u = d .u; v = d .v; face = d .face }
+
+  -- a word that answers a moment
+  moment-promised : (word t u v excess count : ℕ) → (word ≡ 2 → ⊥) → (word ≡ 1 → excess ≤ r .tolerance) → Moment (query r words) t u v excess → Promised r (record { word = word; t = t; u = u; v = v; excess = excess; count = count; number = 0 })
+  moment-promised word t u v excess count not-clear met M =
+      record {
+        clear-is-clear = λ e. absurd (not-clear e);
+        no-earlier = λ _ m b touch. M .no-earlier m (in-domain b) touch;
+        there = λ _. (on-bodies (M .domain), M .size);
+        within-tolerance = met;
+      }
+
+  kept-promised : (a : Answer) → Kept (query r words) a → Promised r (told a)
+  kept-promised (Met t u v excess n) k = moment-promised 1 t u v excess n (λ e. omega arith) (λ e. k .1) (k .0)
+  kept-promised (Clear n) k =
+      record {
+        clear-is-clear = λ e m b touch. k m (in-domain b) touch;
+        no-earlier = λ t. absurd t;
+        there = λ t. absurd t;
+        within-tolerance = λ e. absurd (omega arith);
+      }
+  kept-promised (Spent t u v excess n) k = moment-promised 3 t u v excess n (λ e. omega arith) (λ e. absurd (omega arith)) k
+  kept-promised (Room t u v excess n) k = moment-promised 4 t u v excess n (λ e. omega arith) (λ e. absurd (omega arith)) k
+  kept-promised (Floor t u v excess n) k = moment-promised 5 t u v excess n (λ e. omega arith) (λ e. absurd (omega arith)) k
+  kept-promised (Refused n) k = absurd k
+
+  -- a refusal promises nothing
+  refusal-promised : (n : ℕ) → Promised r (told (Refused n))
+  refusal-promised n =
+      record {
+        clear-is-clear = λ e. absurd (omega arith);
+        no-earlier = λ t. absurd t;
+        there = λ t. absurd t;
+        within-tolerance = λ e. absurd (omega arith);
+      }
+
+-- ---- demand 3
+pub promised : (r : Record) (words : ℕ) → Promised r (told (search r words))
+unfolding search unless
+promised r words = go (searchRefusal r words) refl
+  where
+    go : (n : ℕ) → searchRefusal r words ≡ n → Promised r (told (unless n (run (query r words))))
+    go zero e = kept-promised r words (run (query r words)) (accepted-kept r words e)
+    go (suc n) e = refusal-promised r words (suc n)
+
+-- for a caller of the code, whose contract says that what it answers is what the written search does
+pub answer-promised : (r : Record) (words : ℕ) (a : Answer) → a ≡ search r words → Promised r (told a)
+answer-promised r words a e = subst (λ x. Promised r (told x)) (sym e) (promised r words)
+
+-- ---- each by itself, of any such answer
+module _ (r : Record) (words : ℕ) (a : Answer) (e : a ≡ search r words) where
+  pub clear-is-clear : Clear-is-clear r (told a)
+  clear-is-clear = answer-promised r words a e .clear-is-clear
+
+  pub no-earlier : No-earlier r (told a)
+  no-earlier = answer-promised r words a e .no-earlier
+
+  pub there : There r (told a)
+  there = answer-promised r words a e .there
+
+  pub within-tolerance : Within-tolerance r (told a)
+  within-tolerance = answer-promised r words a e .within-tolerance

@@ -1,0 +1,85 @@
+-- A search is refused exactly for the first refusal that is due, and an accepted one is answered.
+use mathlib.Core.Path.{_≡_, refl, ap, _∙_, subst}
+use mathlib.Core.Logic.{_↔_}
+use mathlib.Core.Bool.{Bool, true, false, not, cond, _&&_}
+use mathlib.Core.List.{List, [], _∷_, _++_}
+use Prim.Native.Nat.{ℕ, zero, suc, _<_}
+use native.Mathlib.Omega.{arith}
+use lib.Dec.{T, leb, leb→le}
+use Rattle.rules.specs.declared.Record.{Record}
+use Rattle.rules.specs.declared.Answer.{Answer}
+use Rattle.rules.specs.declared.Answer.the-variants.{Refused}
+use Rattle.rules.specs.Numbers.{isBudget, isQueue}
+use Rattle.rules.specs.Gap.{sided, isVertexFace}
+use Rattle.rules.specs.Refusals.{Case, first, recordCases, searchRefusal}
+use Rattle.rules.specs.Search.{query, run, unless, search}
+use Rattle.kernel.specs.Kernel.{kernelOf}
+use Rattle.kernel.specs.Same.{gap-kernel}
+use Rattle.promise.proofs.Box.{HasKernel}
+use Rattle.promise.proofs.Survive.{and-both}
+use Rattle.promise.proofs.Levels.{Kept, run-kept}
+
+-- ---- none is due: the budget is not 0
+abbrev NoneDue : List Case → Type 0
+NoneDue [] = Unit
+NoneDue (c ∷ cs) = T (not (c .due)) × NoneDue cs
+
+abbrev Numbered : List Case → Type 0
+Numbered [] = Unit
+Numbered (c ∷ cs) = (0 < c .number) × Numbered cs
+
+first-none : (cs : List Case) → Numbered cs → first cs ≡ 0 → NoneDue cs
+unfolding first
+first-none [] h e = tt
+first-none (c ∷ cs) h e = go (c .due) e (first-none cs (h .1))
+  where
+    go : (d : Bool) → cond d (c .number) (first cs) ≡ 0 → (first cs ≡ 0 → NoneDue cs) → T (not d) × NoneDue cs
+    go true f g = absurd (omega (arith, h .0))
+    go false f g = (tt, g f)
+
+not-not : (b : Bool) → T (not (not b)) → T b
+not-not true t = tt
+not-not false t = t
+
+accepted-budget : (r : Record) (words : ℕ) → searchRefusal r words ≡ 0 → 0 < r .budget
+unfolding searchRefusal
+accepted-budget r words e = leb→le 1 (r .budget) (and-both (leb 1 (r .budget)) (leb (r .budget) 1_000_000) (not-not (isBudget (r .budget)) (none .1 .1 .1 .1 .1 .0)) .0)
+  where
+    cases : List Case
+    cases = recordCases r ++ (record { number = 7; due = not (isQueue words) } ∷ [])
+
+    numbered : Numbered cases
+    numbered = (omega arith, (omega arith, (omega arith, (omega arith, (omega arith, (omega arith, (omega arith, tt)))))))
+
+    none : NoneDue cases
+    none = first-none cases numbered e
+
+-- ---- what an accepted search answers is kept; `Kept` of a refusal is absurd, so it is an answer
+record-kernel : (r : Record) (words : ℕ) → HasKernel (query r words)
+record-kernel r words =
+    record {
+      kernel = kernelOf (isVertexFace r) (sided r);
+      same = λ axis q a b c. gap-kernel (sided r) axis q a b c (isVertexFace r);
+    }
+
+pub accepted-kept : (r : Record) (words : ℕ) → searchRefusal r words ≡ 0 → Kept (query r words) (run (query r words))
+accepted-kept r words e = run-kept (query r words) (record-kernel r words) (omega arith) (accepted-budget r words e)
+
+-- 61 levels are enough: an accepted search is never cut off
+pub run-ended : (r : Record) (words n : ℕ) → searchRefusal r words ≡ 0 → run (query r words) ≡ Refused n → ⊥
+run-ended r words n e f = subst (Kept (query r words)) f (accepted-kept r words e)
+
+-- refused with a number exactly when it is the first that is due
+pub refused-exactly : (r : Record) (words n : ℕ) → (search r words ≡ Refused n) ↔ ((0 < n) × (searchRefusal r words ≡ n))
+unfolding search unless
+refused-exactly r words n = (λ e. there (searchRefusal r words) refl e, λ p. ap (λ (k : ℕ). unless k (run (query r words))) (p .1) ∙ back n (p .0))
+  where
+    there : (k : ℕ) → searchRefusal r words ≡ k → unless k (run (query r words)) ≡ Refused n → (0 < n) × (searchRefusal r words ≡ n)
+    there zero e f = absurd (run-ended r words n e f)
+    there (suc k) e f =
+        let g : suc k ≡ n = cc in
+        (omega arith, e ∙ g)
+
+    back : (k : ℕ) → 0 < k → unless k (run (query r words)) ≡ Refused k
+    back zero h = absurd (omega arith)
+    back (suc k) h = refl
