@@ -4,4 +4,5 @@ pub mod Gap
 pub mod Answers
 pub mod Refusals
 pub mod Search
+pub mod QueryFile
 pub mod Berth

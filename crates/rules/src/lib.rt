@@ -80,3 +80,28 @@ pub struct Told {
     pub count: u32,
     pub number: u32,
 }
+
+// What a file's trailer must say: its mark, its edition, and the bytes that one record takes.
+pub struct Form {
+    pub mark: [u8; 4],
+    pub edition: u8,
+    pub size: u8,
+}
+
+// What opening a file answers: where the first record stands and how many there are. A refusal carries its number.
+pub enum Opened {
+    Records { first: usize, count: usize },
+    Refused(u32),
+}
+
+// A fetched record and its refusal's number, 0 for none. (An enum cannot hold the record's array.)
+pub struct Fetched {
+    pub refusal: u32,
+    pub query: Record,
+}
+
+// What a writer answers. A refusal carries its number.
+pub enum Wrote {
+    Done,
+    Refused(u32),
+}

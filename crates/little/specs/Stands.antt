@@ -1,0 +1,34 @@
+-- Laws of `stands`: bytes compared one by one.
+-- Assumes nothing.
+use Prim.Native.Nat.{ℕ, suc, _+_}
+use mathlib.Core.Path.{_≡_, refl}
+use mathlib.Core.Bool.{Bool, true, false, _&&_}
+use mathlib.Core.List.{List, [], _∷_}
+use native.Mathlib.Omega.{arith}
+use lib.Dec.{eqb}
+use lib.ListN.{length, getD}
+use Rattle.rules.specs.QueryFile.{stands}
+
+-- a list of four is its four
+pub four : (l : List ℕ) → length l ≡ 4 → l ≡ getD l 0 0 ∷ getD l 1 0 ∷ getD l 2 0 ∷ getD l 3 0 ∷ []
+four [] h = absurd (omega arith)
+four (a ∷ []) h = absurd (omega arith)
+four (a ∷ b ∷ []) h = absurd (omega arith)
+four (a ∷ b ∷ c ∷ []) h = absurd (omega arith)
+four (a ∷ b ∷ c ∷ d ∷ []) h = refl
+four (a ∷ b ∷ c ∷ d ∷ e ∷ l) h = absurd (omega arith)
+
+-- `&&` from the left is `&&` from the right
+regroup : (w x y z : Bool) → (w && x && y && z) ≡ (w && (x && (y && (z && true))))
+regroup false x y z = refl
+regroup true false y z = refl
+regroup true true false z = refl
+regroup true true true false = refl
+regroup true true true true = refl
+
+pub stands-four : (s : List ℕ) (at a b c d : ℕ) → (eqb (getD s at 0) a && eqb (getD s (at + 1) 0) b && eqb (getD s (at + 2) 0) c && eqb (getD s (at + 3) 0) d) ≡ stands s at (a ∷ b ∷ c ∷ d ∷ [])
+unfolding stands
+stands-four s at a b c d =
+    let e2 : at + 1 + 1 ≡ at + 2 = omega arith in
+    let e3 : at + 2 + 1 ≡ at + 3 = omega arith in
+    rw (e2, e3) (regroup (eqb (getD s at 0) a) (eqb (getD s (at + 1) 0) b) (eqb (getD s (at + 2) 0) c) (eqb (getD s (at + 3) 0) d))

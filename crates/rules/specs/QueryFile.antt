@@ -1,0 +1,196 @@
+-- Document 01, "The query file", and rows 8 to 14 of the table with their orders.
+use Prim.Native.Nat.{ℕ, zero, suc, _+_, _-_, _*_, _/_, _%_}
+use mathlib.Core.Path.{_≡_}
+use mathlib.Core.Bool.{Bool, true, false, not, cond, _&&_, _||_}
+use mathlib.Core.List.{List, [], _∷_, _++_}
+use lib.IntN.{ℤ, pos, negsuc, _-ℤ_}
+use lib.ListN.{length, getD, take, drop, replicate}
+use lib.Dec.{ltb, eqb}
+use Rattle.rules.specs.declared.Record.{Record}
+use Rattle.rules.specs.declared.Form.{Form}
+use Rattle.rules.specs.declared.Opened.{Opened}
+use Rattle.rules.specs.declared.Opened.the-variants as Open
+use Rattle.rules.specs.declared.Fetched.{Fetched}
+use Rattle.rules.specs.declared.Wrote.{Wrote}
+use Rattle.rules.specs.declared.Wrote.the-variants as Write
+use Rattle.rules.specs.Refusals.{Case, first, recordCases, recordRefusal}
+
+-- ---- numbers as bytes
+
+-- "Little-endian.": the number of 32 bits whose four bytes stand from `at`
+unfoldable pub word : List ℕ → ℕ → ℕ
+word s at = getD s at 0 + 256 * getD s (at + 1) 0 + 65_536 * getD s (at + 2) 0 + 16_777_216 * getD s (at + 3) 0
+
+-- the four bytes of such a number
+unfoldable pub wordBytes : ℕ → List ℕ
+wordBytes n = n % 256 ∷ n / 256 % 256 ∷ n / 65_536 % 256 ∷ n / 16_777_216 % 256 ∷ []
+
+-- "32 bits two's complement": bits from 2^31 on stand for the number less 2^32
+unfoldable pub signed : ℕ → ℤ
+signed n = cond (ltb n 2_147_483_648) (pos n) (pos n -ℤ pos 4_294_967_296)
+
+-- the bits of a signed number; `negsuc n` is -(n + 1)
+unfoldable pub bits : ℤ → ℕ
+bits (pos n) = n
+bits (negsuc n) = 4_294_967_296 - (n + 1)
+
+-- whether these bytes stand from `at`
+unfoldable pub stands : List ℕ → ℕ → List ℕ → Bool
+stands s at [] = true
+stands s at (b ∷ bs) = eqb (getD s at 0) b && stands s (at + 1) bs
+
+-- ---- the record
+
+-- "x, y, z each 32 bits": so many coordinates from `at` on
+unfoldable pub coordinatesAt : List ℕ → ℕ → ℕ → List ℤ
+coordinatesAt s at zero = []
+coordinatesAt s at (suc n) = signed (word s at) ∷ coordinatesAt s (at + 4) n
+
+unfoldable pub coordinateBytes : List ℤ → List ℕ
+coordinateBytes [] = []
+coordinateBytes (c ∷ cs) = wordBytes (bits c) ++ coordinateBytes cs
+
+-- "kind (byte 0), flags (1), zero (2, 3), id (4), separation (8), tolerance (12), budget (16). From 20: four points at the start, four at the end"
+unfoldable pub recordAt : List ℕ → ℕ → Record
+recordAt s at = record {
+  kind = getD s at 0;
+  flags = getD s (at + 1) 0;
+  byte2 = getD s (at + 2) 0;
+  byte3 = getD s (at + 3) 0;
+  id = word s (at + 4);
+  separation = word s (at + 8);
+  tolerance = word s (at + 12);
+  budget = word s (at + 16);
+  points = coordinatesAt s (at + 20) 24;
+}
+
+unfoldable pub recordBytes : Record → List ℕ
+recordBytes r =
+    (r .kind ∷ r .flags ∷ r .byte2 ∷ r .byte3 ∷ [])
+    ++ wordBytes (r .id)
+    ++ wordBytes (r .separation)
+    ++ wordBytes (r .tolerance)
+    ++ wordBytes (r .budget)
+    ++ coordinateBytes (r .points)
+
+-- ---- the trailer and the file
+
+-- "the bytes `QEND`, edition"; "records of 116 bytes"; document 01 has edition 1 alone
+abbrev pub queryForm : Form
+queryForm = record { mark = 81 ∷ 69 ∷ 78 ∷ 68 ∷ []; edition = 1; size = 116 }
+
+-- "edition, three zero bytes"
+abbrev pub editionBytes : Form → List ℕ
+editionBytes form = form .edition ∷ 0 ∷ 0 ∷ 0 ∷ []
+
+-- "the bytes `QEND`, edition, three zero bytes, back pointer (distance from trailer to first record) and count"
+unfoldable pub trailerBytes : Form → ℕ → List ℕ
+trailerBytes form count = form .mark ++ editionBytes form ++ wordBytes (form .size * count) ++ wordBytes count
+
+unfoldable pub recordsBytes : List Record → List ℕ
+recordsBytes [] = []
+recordsBytes (r ∷ rs) = recordBytes r ++ recordsBytes rs
+
+-- "Free leading bytes, then records of 116 bytes, then a trailer of 16 bytes ending the file"
+unfoldable pub fileBytes : List ℕ → List Record → List ℕ
+fileBytes free rs = free ++ recordsBytes rs ++ trailerBytes queryForm (length rs)
+
+-- ---- opening
+
+-- the trailer's place, and what it says: "back pointer and count"
+abbrev pub trailerPlace : List ℕ → ℕ
+trailerPlace s = length s - 16
+
+abbrev pub backPointer : List ℕ → ℕ
+backPointer s = word s (trailerPlace s + 8)
+
+abbrev pub recordCount : List ℕ → ℕ
+recordCount s = word s (trailerPlace s + 12)
+
+-- "Opening: 8 to 12." 8 SHORT, 9 MARK, 10 EDITION, 11 COUNT, 12 BACK, each "given exactly when"
+abbrev pub openCases : Form → List ℕ → List Case
+openCases form s =
+    record { number = 8; due = ltb (length s) 16 }
+    ∷ record { number = 9; due = not (stands s (trailerPlace s) (form .mark)) }
+    ∷ record { number = 10; due = not (stands s (trailerPlace s + 4) (editionBytes form)) }
+    ∷ record { number = 11; due = ltb 4096 (recordCount s) }
+    ∷ record { number = 12; due = not (eqb (backPointer s) (form .size * recordCount s)) || ltb (trailerPlace s) (backPointer s) }
+    ∷ []
+
+unfoldable pub openRefusal : Form → List ℕ → ℕ
+openRefusal form s = first (openCases form s)
+
+-- a refusal's number (0: none), or else where the records stand
+unfoldable pub openUnless : ℕ → ℕ → ℕ → Opened
+openUnless zero place n = Open.Records place n
+openUnless (suc k) place n = Open.Refused (suc k)
+
+unfoldable pub opened : Form → List ℕ → Opened
+opened form s = openUnless (openRefusal form s) (trailerPlace s - backPointer s) (recordCount s)
+
+-- ---- fetching record n
+
+-- where it stands in a file that opens
+abbrev pub placeOf : List ℕ → ℕ → ℕ
+placeOf s n = trailerPlace s - backPointer s + 116 * n
+
+-- 8 to 12, then 13 INDEX, "record number not below the count"
+unfoldable pub reachRefusal : List ℕ → ℕ → ℕ
+reachRefusal s n = first (openCases queryForm s ++ (record { number = 13; due = not (ltb n (recordCount s)) } ∷ []))
+
+-- what stands beside the number where there is no record
+abbrev pub noRecord : Record
+noRecord = record {
+  kind = 0;
+  flags = 0;
+  byte2 = 0;
+  byte3 = 0;
+  id = 0;
+  separation = 0;
+  tolerance = 0;
+  budget = 0;
+  points = replicate 24 (pos 0);
+}
+
+-- "Fetching record n: 8 to 13, then 1 to 6." A record that is there is given beside its own refusal
+unfoldable pub fetchUnless : ℕ → Record → Fetched
+fetchUnless zero r = record { refusal = recordRefusal r; query = r }
+fetchUnless (suc k) r = record { refusal = suc k; query = noRecord }
+
+unfoldable pub fetched : List ℕ → ℕ → Fetched
+fetched s n = fetchUnless (reachRefusal s n) (recordAt s (placeOf s n))
+
+-- ---- writing
+
+-- the list with these bytes from `at` on in place of what stood there
+unfoldable pub put : List ℕ → ℕ → List ℕ → List ℕ
+put s at bytes = take at s ++ bytes ++ drop (at + length bytes) s
+
+-- 14 SPACE: "fewer than 116 (or 16) bytes stand from that place to the buffer's end, a place past the end included"
+abbrev pub space : List ℕ → ℕ → ℕ → Case
+space s at n = record { number = 14; due = ltb (length s - at) n }
+
+-- "Writing a record: 1 to 6, then 14."
+unfoldable pub writeRefusal : List ℕ → ℕ → Record → ℕ
+writeRefusal s at r = first (recordCases r ++ (space s at 116 ∷ []))
+
+-- "Writing a trailer behind records: 11, then 12 (fewer bytes before it than 116 times the count), then 14." The bytes before it are the
+-- place itself, also where that lies past the end
+unfoldable pub trailerRefusal : Form → List ℕ → ℕ → ℕ → ℕ
+trailerRefusal form s at n =
+    first (record { number = 11; due = ltb 4096 n } ∷ record { number = 12; due = ltb at (form .size * n) } ∷ space s at 16 ∷ [])
+
+-- a writer's answer by its refusal (0: none)
+unfoldable pub wroteUnless : ℕ → Wrote
+wroteUnless zero = Write.Done
+wroteUnless (suc k) = Write.Refused (suc k)
+
+-- "A refused write changes no byte; a done one changes only the 116 or 16 bytes written."
+unfoldable pub putUnless : ℕ → List ℕ → ℕ → List ℕ → List ℕ
+putUnless zero s at bytes = put s at bytes
+putUnless (suc k) s at bytes = s
+
+-- what a writer answers and leaves, by its refusal
+pub record Written (refusal : ℕ) (before : List ℕ) (at : ℕ) (bytes after : List ℕ) (answer : Wrote) : Type 0 where
+  pub says : answer ≡ wroteUnless refusal
+  pub leaves : after ≡ putUnless refusal before at bytes
