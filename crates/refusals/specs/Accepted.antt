@@ -3,19 +3,19 @@
 --     accepted-search   of `searchRefusal r words ≡ 0`, as the search gives it
 -- Assumes nothing.
 use Prim.Native.Nat.{ℕ, suc, _≤_}
-use mathlib.Core.Path.{_≡_, refl, sym, _∙_}
+use mathlib.Core.Path.{_≡_, refl}
 use mathlib.Core.Bool.{Bool, true, false, not, _&&_, _||_}
-use mathlib.Core.List.{List, [], _∷_}
+use mathlib.Core.List.{List, [], _∷_, _++_}
 use mathlib.Core.Logic.{_⊎_, inl, inr, ⊎-map}
 use native.Mathlib.Omega.{arith}
-use borrow.Author.Tests.{leb-true, eqb-true}
+use borrow.Author.Tests.{leb-true, eqb-true, not-false}
 use lib.IntN.{pos, natAbs}
 use lib.ListN.{getD, drop}
 use lib.Dec.{leb, eqb}
 use Rattle.rules.specs.declared.Record.{Record}
 use Rattle.rules.specs.Numbers.{between, isCoordinate, isSeparation, isTolerance, isBudget, isQueue}
 use Rattle.rules.specs.Refusals.{Case, first, every, recordCases, recordRefusal, searchRefusal}
-use Rattle.refusals.specs.Cases.{firstOr, first-append, first-alone}
+use Rattle.refusals.specs.Cases.{not-due}
 use Rattle.refusals.specs.Every.{both, every-at}
 
 pub record Accepted (r : Record) : Type 0 where
@@ -35,12 +35,6 @@ pub record AcceptedSearch (r : Record) (words : ℕ) : Type 0 where
   pub words-least : 2 ≤ words
   pub words-most : words ≤ 1048576
 
--- the first row, which is due where `ok` fails, is not due, and neither is one behind it
-peel : (n : ℕ) (ok : Bool) (cs : List Case) (rest : ℕ) → firstOr (record { number = suc n; due = not ok } ∷ cs) rest ≡ 0 → (ok ≡ true) × (firstOr cs rest ≡ 0)
-unfolding firstOr
-peel n true cs rest e = (refl, e)
-peel n false cs rest e = let z : suc n ≡ 0 = e in absurd (omega arith)
-
 either : (a b : Bool) → (a || b) ≡ true → (a ≡ true) ⊎ (b ≡ true)
 either true b e = inl refl
 either false b e = inr e
@@ -50,16 +44,19 @@ in-range low high n e =
     let h = both (leb low n) (leb n high) e in
     (leb-true low n (h .0), leb-true n high (h .1))
 
-accepted-or : (r : Record) (rest : ℕ) → firstOr (recordCases r) rest ≡ 0 → Accepted r × (rest ≡ 0)
-unfolding firstOr
-accepted-or r rest e =
-    let cs = recordCases r in
-    let one = peel 0 (eqb (r .kind) 1 || eqb (r .kind) 2) (drop 1 cs) rest e in
-    let two = peel 1 (leb (r .flags) 1 && eqb (r .byte2) 0 && eqb (r .byte3) 0) (drop 2 cs) rest (one .1) in
-    let three = peel 2 (every isCoordinate (r .points)) (drop 3 cs) rest (two .1) in
-    let four = peel 3 (isSeparation (r .separation)) (drop 4 cs) rest (three .1) in
-    let five = peel 4 (isTolerance (r .tolerance)) (drop 5 cs) rest (four .1) in
-    let six = peel 5 (isBudget (r .budget)) (drop 6 cs) rest (five .1) in
+-- a row that is due where `ok` fails
+peel : (n : ℕ) (ok : Bool) (cs : List Case) → first (record { number = suc n; due = not ok } ∷ cs) ≡ 0 → (ok ≡ true) × (first cs ≡ 0)
+peel n ok cs e = let h = not-due n (not ok) cs e in (not-false ok (h .0), h .1)
+
+accepted-before : (r : Record) (more : List Case) → first (recordCases r ++ more) ≡ 0 → Accepted r × (first more ≡ 0)
+accepted-before r more e =
+    let cs = recordCases r ++ more in
+    let one = peel 0 (eqb (r .kind) 1 || eqb (r .kind) 2) (drop 1 cs) e in
+    let two = peel 1 (leb (r .flags) 1 && eqb (r .byte2) 0 && eqb (r .byte3) 0) (drop 2 cs) (one .1) in
+    let three = peel 2 (every isCoordinate (r .points)) (drop 3 cs) (two .1) in
+    let four = peel 3 (isSeparation (r .separation)) (drop 4 cs) (three .1) in
+    let five = peel 4 (isTolerance (r .tolerance)) (drop 5 cs) (four .1) in
+    let six = peel 5 (isBudget (r .budget)) more (five .1) in
     let flags = both (leb (r .flags) 1 && eqb (r .byte2) 0) (eqb (r .byte3) 0) (two .0) in
     let flags2 = both (leb (r .flags) 1) (eqb (r .byte2) 0) (flags .0) in (
       record {
@@ -79,12 +76,11 @@ accepted-or r rest e =
 
 pub accepted : (r : Record) → recordRefusal r ≡ 0 → Accepted r
 unfolding recordRefusal
-accepted r e = accepted-or r 0 (sym (first-alone (recordCases r)) ∙ e) .0
+accepted r e = accepted-before r [] e .0
 
 pub accepted-search : (r : Record) (words : ℕ) → searchRefusal r words ≡ 0 → AcceptedSearch r words
 unfolding searchRefusal
 accepted-search r words e =
-    let seven : List Case = record { number = 7; due = not (isQueue words) } ∷ [] in
-    let h = accepted-or r (first seven) (sym (first-append (recordCases r) seven) ∙ e) in
-    let q = in-range 2 1048576 words (peel 6 (isQueue words) [] 0 (sym (first-alone seven) ∙ h .1) .0) in
+    let h = accepted-before r (record { number = 7; due = not (isQueue words) } ∷ []) e in
+    let q = in-range 2 1048576 words (peel 6 (isQueue words) [] (h .1) .0) in
     record { query = h .0; words-least = q .0; words-most = q .1 }

@@ -51,8 +51,8 @@ fn is_queue(words: usize) -> bool
     (2 <= words) & (words <= 1048576)
 }
 
-// `number` where the row is due, else `rest`.
-fn first(due: bool, number: u32, rest: u32) -> u32
+// `number` where the row is due, else `rest`: a row of the table before the others.
+pub fn first(due: bool, number: u32, rest: u32) -> u32
     ensures { λ n. ⌜ n ≡ cond due number rest ⌝ }
 {
     if due { number } else { rest }

@@ -1,0 +1,88 @@
+use Prim.Native.Nat.{_+_, _≤_}
+use mathlib.Core.Path.{refl}
+use mathlib.Core.List.{[], _∷_, _++_}
+use native.Mathlib.Omega.{arith}
+use lib.ListN.{length}
+use Rattle.little.specs.Put.{one-more}
+use Rattle.rules.specs.QueryFile.{wordBytes}
+use Rattle.rules.specs.QueryFile.{recordBytes, coordinateBytes}
+use borrow.Author.Needs.{needs}
+use Rattle.queries.proofs.encode.Statement.{statement}
+use Rattle.queries.proofs.encode.Tie as tie
+
+write4-requires : tie.Need-write4-requires
+write4-requires c κs = search needs
+
+add-write-u32 : tie.Need-add-write-u32
+add-write-u32 c = search needs
+
+write-u32-requires : tie.Need-write-u32-requires
+write-u32-requires c κs = search needs
+
+add-write-u32-2 : tie.Need-add-write-u32-2
+add-write-u32-2 c = search needs
+
+write-u32-requires-2 : tie.Need-write-u32-requires-2
+write-u32-requires-2 c κs = search needs
+
+add-write-u32-3 : tie.Need-add-write-u32-3
+add-write-u32-3 c = search needs
+
+write-u32-requires-3 : tie.Need-write-u32-requires-3
+write-u32-requires-3 c κs = search needs
+
+add-write-u32-4 : tie.Need-add-write-u32-4
+add-write-u32-4 c = search needs
+
+write-u32-requires-4 : tie.Need-write-u32-requires-4
+write-u32-requires-4 c κs = search needs
+
+add-write-points : tie.Need-add-write-points
+add-write-points c = search needs
+
+write-points-requires : tie.Need-write-points-requires
+write-points-requires c κs = search needs
+
+same-length : tie.Need-same-length
+same-length c = search needs
+
+returns : tie.Need-returns
+unfolding recordBytes wordBytes
+returns c =
+    let w5 = c .before .before in
+    let w4 = w5 .before .before .before .before .before in
+    let w3 = w4 .before .before .before .before in
+    let w2 = w3 .before .before .before .before in
+    let w1 = w2 .before .before .before .before in
+    let w0 = w1 .before .before .before .before in
+    let a = w0 .before .before .before .args in
+    let s = a .s .now in
+    let room : a .at + 116 ≤ length s = w0 .before .before .before .pre in
+    let b0 = a .r .kind ∷ a .r .flags ∷ a .r .byte2 ∷ a .r .byte3 ∷ [] in
+    let b1 = wordBytes (a .r .id) in
+    let b2 = wordBytes (a .r .separation) in
+    let b3 = wordBytes (a .r .tolerance) in
+    let b4 = wordBytes (a .r .budget) in
+    let e1 = one-more s (w0 .write4 .last .0) (w1 .write-u32 .last .0) (a .at) (a .at + 4) b0 b1 (w0 .write4 .ensures) (w1 .write-u32 .ensures) refl (omega arith) in
+    let e2 = one-more s (w1 .write-u32 .last .0) (w2 .write-u322 .last .0) (a .at) (a .at + 8) (b0 ++ b1) b2 e1 (w2 .write-u322 .ensures) refl (omega arith) in
+    let e3 = one-more s (w2 .write-u322 .last .0) (w3 .write-u323 .last .0) (a .at) (a .at + 12) (b0 ++ b1 ++ b2) b3 e2 (w3 .write-u323 .ensures) refl (omega arith) in
+    let e4 = one-more s (w3 .write-u323 .last .0) (w4 .write-u324 .last .0) (a .at) (a .at + 16) (b0 ++ b1 ++ b2 ++ b3) b4 e3 (w4 .write-u324 .ensures) refl (omega arith) in
+    one-more s (w4 .write-u324 .last .0) (w5 .write-points .last .0) (a .at) (a .at + 20) (b0 ++ b1 ++ b2 ++ b3 ++ b4) (coordinateBytes (a .r .points)) e4 (w5 .write-points .ensures) refl (omega arith)
+
+pub encode-spec : {M : Type 1} → statement M
+encode-spec =
+    tie.close
+    (tie.spec
+    write4-requires
+    add-write-u32
+    write-u32-requires
+    add-write-u32-2
+    write-u32-requires-2
+    add-write-u32-3
+    write-u32-requires-3
+    add-write-u32-4
+    write-u32-requires-4
+    add-write-points
+    write-points-requires
+    same-length
+    returns)

@@ -1,0 +1,84 @@
+-- `queries::fetch` meets its contract: in each arm, what the file opened to. Assumes nothing.
+use mathlib.Core.Path.{_≡_, sym, _∙_}
+use native.Mathlib.Omega.{arith}
+use Prim.Native.Nat.{_≤_, _<_}
+use Rattle.rules.specs.declared.Opened.the-variants.{Records, Refused}
+use Rattle.rules.specs.QueryFile.{queryForm, openRefusal, opened, reachRefusal, fetchUnless, fetched, recordCount}
+use Rattle.queries.specs.Opening.{Holds, opened-records, opened-refused, reach-refused, reach-index, reach-good, refused-fetch}
+use borrow.Author.Needs.{needs}
+use Rattle.queries.proofs.fetch.Statement.{statement}
+use Rattle.queries.proofs.fetch.Tie as tie
+
+refused : (c : tie.After-o) → (openRefusal queryForm (c .before .before .before .before .args .s .now) ≡ c .o .given .0 .0) × (c .o .given .0 .0 ≡ 0 → ⊥)
+refused c = opened-refused queryForm _ _ (sym (c .before .before .open-file .ensures) ∙ c .o .given .1)
+
+holds : (c : tie.After-o2) → Holds queryForm (c .before .before .before .before .args .s .now) (c .o2 .given .0 .0) (c .o2 .given .0 .1 .0)
+holds c = opened-records queryForm _ _ _ (sym (c .before .before .open-file .ensures) ∙ c .o2 .given .1)
+
+open-file-requires : tie.Need-open-file-requires
+open-file-requires c κs = search needs
+
+enum-known-o : tie.Need-enum-known-o
+enum-known-o c = search needs
+
+no-record-requires : tie.Need-no-record-requires
+no-record-requires c κs = search needs
+
+enum-known-o-2 : tie.Need-enum-known-o-2
+enum-known-o-2 c = search needs
+
+no-record-requires-2 : tie.Need-no-record-requires-2
+no-record-requires-2 c κs = search needs
+
+returns : tie.Need-returns
+unfolding fetched fetchUnless
+returns c =
+    let k = c .before .before .before in
+    let a = k .before .before .before .before .args in
+    let h = holds k in
+    simp (reach-index (a .s .now) (a .n) (h .none) (omega (arith, h .counts, c .before .if1 .taken)), c .no-record2 .ensures)
+
+mul-decode : tie.Need-mul-decode
+mul-decode c = omega (arith, holds (c .before .before) .few)
+
+add-decode : tie.Need-add-decode
+add-decode c = omega (arith, holds (c .before .before) .few, holds (c .before .before) .ends)
+
+decode-requires : tie.Need-decode-requires
+decode-requires c κs = omega (arith, holds (c .before .before) .ends)
+
+record-refusal-requires : tie.Need-record-refusal-requires
+record-refusal-requires c κs = search needs
+
+returns-2 : tie.Need-returns-2
+unfolding fetched
+returns-2 c =
+    let k = c .before .before in
+    let a = k .before .before .before .before .args in
+    let h = refused k in
+    rw (c .no-record .ensures, reach-refused (a .s .now) (a .n) (k .o .given .0 .0) (h .0) (h .1)) (refused-fetch (k .o .given .0 .0) _ (h .1))
+
+returns-3 : tie.Need-returns-3
+unfolding fetched fetchUnless
+returns-3 c =
+    let k = c .before .before .before .before in
+    let a = k .before .before .before .before .args in
+    let h = holds k in
+    simp (reach-good (a .s .now) (a .n) (h .none) (omega (arith, h .counts, c .before .before .if1 .left)), c .record-refusal .ensures, c .before .decode .ensures, h .starts)
+
+pub fetch-spec : {M : Type 1} → statement M
+fetch-spec =
+    tie.close
+    (tie.spec
+    open-file-requires
+    enum-known-o
+    no-record-requires
+    enum-known-o-2
+    no-record-requires-2
+    returns
+    mul-decode
+    add-decode
+    decode-requires
+    record-refusal-requires
+    returns-2
+    returns-3)

@@ -1,0 +1,19 @@
+-- `queries::open_file` meets its contract. Assumes nothing.
+use mathlib.Core.Path.{ap, _∙_}
+use Rattle.rules.specs.declared.Form.{Form}
+use Rattle.rules.specs.QueryFile.{opened}
+use borrow.Author.Needs.{needs}
+use Rattle.queries.proofs.open_file.Statement.{statement}
+use Rattle.queries.proofs.open_file.Tie as tie
+
+query-form-requires : tie.Need-query-form-requires
+query-form-requires c κs = search needs
+
+open-form-requires : tie.Need-open-form-requires
+open-form-requires c κs = search needs
+
+returns : tie.Need-returns
+returns c = c .open-form .ensures ∙ ap (λ (f : Form). opened f (c .before .before .before .args .s .now)) (c .before .query-form .ensures)
+
+pub open-file-spec : {M : Type 1} → statement M
+open-file-spec = tie.close (tie.spec query-form-requires open-form-requires returns)

@@ -1,0 +1,3 @@
+-- The laws of the query file.
+pub mod Coordinates
+pub mod Opening

@@ -1,0 +1,112 @@
+-- Laws of opening a file and of reaching a record in it.
+--     refused-open                      the answer of a refusal
+--     opened-refused, opened-records    what an answer says of the file
+--     reach-refused, -index, -good      the refusal of fetching, by the file's own and the index
+-- Assumes nothing.
+use Prim.Native.Nat.{ℕ, zero, suc, _+_, _-_, _*_, _<_, _≤_}
+use mathlib.Core.Path.{_≡_, refl, sym, ap, _∙_}
+use mathlib.Core.Bool.{Bool, true, false, not, _||_}
+use mathlib.Core.List.{List, [], _∷_, _++_}
+use native.Mathlib.Omega.{arith}
+use borrow.Author.Tests.{not-false, ltb-false, eqb-true, lt-ltb, le-ltb}
+use lib.Dec.{ltb, eqb}
+use lib.ListN.{length, drop}
+use Rattle.rules.specs.declared.Record.{Record}
+use Rattle.rules.specs.declared.Fetched.{Fetched}
+use Rattle.rules.specs.declared.Form.{Form}
+use Rattle.rules.specs.declared.Opened.{Opened}
+use Rattle.rules.specs.declared.Opened.the-variants.{Records, Refused}
+use Rattle.rules.specs.Refusals.{Case, first}
+use Rattle.rules.specs.QueryFile.{word, stands, editionBytes, queryForm, trailerPlace, backPointer, recordCount, openCases, openRefusal, openUnless, opened, reachRefusal, noRecord, fetchUnless}
+use Rattle.refusals.specs.Cases.{orElse, first-then, not-due}
+
+pub refused-open : (k place n : ℕ) → (k ≡ 0 → ⊥) → Refused k ≡ openUnless k place n
+unfolding openUnless
+refused-open zero place n h = absurd (h refl)
+refused-open (suc k) place n h = refl
+
+-- ---- what no refusal says of a file
+both-false : (a b : Bool) → (a || b) ≡ false → (a ≡ false) × (b ≡ false)
+both-false true b e = let z : _≡_ {A = ℕ} 0 1 = cc in absurd (omega arith)
+both-false false b e = (refl, e)
+
+pub record Opens (form : Form) (s : List ℕ) : Type 0 where
+  pub long : 16 ≤ length s
+  pub few : recordCount s ≤ 4096
+  pub whole : backPointer s ≡ form .size * recordCount s
+  pub room : backPointer s ≤ trailerPlace s
+
+pub opens : (form : Form) (s : List ℕ) → openRefusal form s ≡ 0 → Opens form s
+unfolding openRefusal
+opens form s e =
+    let cs = openCases form s in
+    let differs = not (eqb (backPointer s) (form .size * recordCount s)) in
+    let h8 = not-due 7 (ltb (length s) 16) (drop 1 cs) e in
+    let h9 = not-due 8 (not (stands s (trailerPlace s) (form .mark))) (drop 2 cs) (h8 .1) in
+    let h10 = not-due 9 (not (stands s (trailerPlace s + 4) (editionBytes form))) (drop 3 cs) (h9 .1) in
+    let h11 = not-due 10 (ltb 4096 (recordCount s)) (drop 4 cs) (h10 .1) in
+    let h12 = not-due 11 (differs || ltb (trailerPlace s) (backPointer s)) [] (h11 .1) in
+    let h = both-false differs (ltb (trailerPlace s) (backPointer s)) (h12 .0) in
+    record {
+      long = ltb-false (length s) 16 (h8 .0);
+      few = ltb-false 4096 (recordCount s) (h11 .0);
+      whole = eqb-true (backPointer s) (form .size * recordCount s) (not-false _ (h .0));
+      room = ltb-false (trailerPlace s) (backPointer s) (h .1);
+    }
+
+-- ---- what an answer says of a file
+pub record Holds (form : Form) (s : List ℕ) (place n : ℕ) : Type 0 where
+  pub none : openRefusal form s ≡ 0
+  pub starts : place ≡ trailerPlace s - backPointer s
+  pub counts : n ≡ recordCount s
+  pub few : n ≤ 4096
+  pub ends : place + form .size * n + 16 ≡ length s
+
+records : (k p m place n : ℕ) → openUnless k p m ≡ Records place n → (k ≡ 0) × (place ≡ p) × (n ≡ m)
+unfolding openUnless
+records zero p m place n e = (refl, cc, cc)
+records (suc k) p m place n e = let z : _≡_ {A = ℕ} 0 1 = cc in absurd (omega arith)
+
+pub opened-records : (form : Form) (s : List ℕ) (place n : ℕ) → opened form s ≡ Records place n → Holds form s place n
+unfolding opened
+opened-records form s place n e =
+    let h = records (openRefusal form s) (trailerPlace s - backPointer s) (recordCount s) place n e in
+    let o = opens form s (h .0) in
+    let w : backPointer s ≡ form .size * n = o .whole ∙ ap (λ (k : ℕ). form .size * k) (sym (h .2)) in
+    record { none = h .0; starts = h .1; counts = h .2; few = omega (arith, o .few); ends = omega (arith, o .long, o .room) }
+
+refused : (k p m j : ℕ) → openUnless k p m ≡ Refused j → (k ≡ j) × (j ≡ 0 → ⊥)
+unfolding openUnless
+refused zero p m j e = let z : _≡_ {A = ℕ} 0 1 = cc in absurd (omega arith)
+refused (suc k) p m j e = let h : suc k ≡ j = cc in (h, λ q. omega arith)
+
+pub opened-refused : (form : Form) (s : List ℕ) (k : ℕ) → opened form s ≡ Refused k → (openRefusal form s ≡ k) × (k ≡ 0 → ⊥)
+unfolding opened
+opened-refused form s k e = refused (openRefusal form s) (trailerPlace s - backPointer s) (recordCount s) k e
+
+-- ---- reaching record n
+module _ (s : List ℕ) (n : ℕ) where
+  by-index : Bool → List Case
+  by-index due = record { number = 13; due = due } ∷ []
+
+  reach : reachRefusal s n ≡ orElse (openRefusal queryForm s) (first (by-index (not (ltb n (recordCount s)))))
+  unfolding reachRefusal openRefusal by-index
+  reach = first-then (openCases queryForm s) (by-index (not (ltb n (recordCount s)))) tt
+
+  pub reach-refused : (k : ℕ) → openRefusal queryForm s ≡ k → (k ≡ 0 → ⊥) → reachRefusal s n ≡ k
+  reach-refused zero e h = absurd (h refl)
+  reach-refused (suc k) e h = reach ∙ ap (λ (m : ℕ). orElse m (first (by-index (not (ltb n (recordCount s)))))) e
+
+  pub reach-index : openRefusal queryForm s ≡ 0 → recordCount s ≤ n → reachRefusal s n ≡ 13
+  unfolding first by-index
+  reach-index e h = reach ∙ rw (e, le-ltb n (recordCount s) h)
+
+  pub reach-good : openRefusal queryForm s ≡ 0 → n < recordCount s → reachRefusal s n ≡ 0
+  unfolding first by-index
+  reach-good e h = reach ∙ rw (e, lt-ltb n (recordCount s) h)
+
+-- a number that is none of these, beside no record
+pub refused-fetch : (k : ℕ) (r : Record) → (k ≡ 0 → ⊥) → record { refusal = k; query = noRecord } ≡ fetchUnless k r
+unfolding fetchUnless
+refused-fetch zero r h = absurd (h refl)
+refused-fetch (suc k) r h = refl

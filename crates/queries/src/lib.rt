@@ -1,0 +1,179 @@
+// The query file, read and written.
+ghost use mathlib.Core.Path.{_≡_};
+ghost use Prim.Native.Nat.{_+_, _-_, _*_, _≤_};
+ghost use lib.ListN.{length};
+ghost use Rattle.rules.specs.QueryFile.{coordinatesAt, coordinateBytes, recordAt, recordBytes, trailerBytes, queryForm, put, opened, fetched, noRecord, writeRefusal, trailerRefusal, Written};
+use little::read_i32;
+use little::read_u32;
+use little::stands4;
+use little::write_i32;
+use little::write_u32;
+use little::write4;
+use refusals::first;
+use refusals::record_refusal;
+use rules::Fetched;
+use rules::Form;
+use rules::Opened;
+use rules::Record;
+use rules::Wrote;
+
+// ---- a record
+
+fn read_points(s: &[u8], at: usize) -> [i32; 24]
+    requires { ⌜ at + 96 ≤ length (now s) ⌝ }
+    ensures { λ r. ⌜ r ≡ coordinatesAt (now (s .entry)) at 24 ⌝ }
+{
+    let mut p = [0i32; 24];
+    let mut i = 0;
+    while i < 24 {
+        p[i] = read_i32(s, at + 4 * i);
+        i += 1;
+    }
+    p
+}
+
+fn write_points(s: &mut [u8], at: usize, p: [i32; 24])
+    requires { ⌜ at + 96 ≤ length (now s) ⌝ }
+    ensures { λ _. ⌜ now (s .exit) ≡ put (now (s .entry)) at (coordinateBytes p) ⌝ }
+{
+    let mut i = 0;
+    while i < 24 {
+        write_i32(s, at + 4 * i, p[i]);
+        i += 1;
+    }
+}
+
+fn decode(s: &[u8], at: usize) -> Record
+    requires { ⌜ at + 116 ≤ length (now s) ⌝ }
+    ensures { λ r. ⌜ r ≡ recordAt (now (s .entry)) at ⌝ }
+{
+    let points = read_points(s, at + 20);
+    Record {
+        kind: s[at],
+        flags: s[at + 1],
+        byte2: s[at + 2],
+        byte3: s[at + 3],
+        id: read_u32(s, at + 4),
+        separation: read_u32(s, at + 8),
+        tolerance: read_u32(s, at + 12),
+        budget: read_u32(s, at + 16),
+        points,
+    }
+}
+
+fn encode(s: &mut [u8], at: usize, r: Record)
+    requires { ⌜ at + 116 ≤ length (now s) ⌝ }
+    ensures { λ _. ⌜ now (s .exit) ≡ put (now (s .entry)) at (recordBytes r) ⌝ }
+{
+    write4(s, at, r.kind, r.flags, r.byte2, r.byte3);
+    write_u32(s, at + 4, r.id);
+    write_u32(s, at + 8, r.separation);
+    write_u32(s, at + 12, r.tolerance);
+    write_u32(s, at + 16, r.budget);
+    let points = r.points;
+    write_points(s, at + 20, points);
+}
+
+// ---- opening
+
+fn wide(x: u32) -> usize
+    ensures { λ r. ⌜ r ≡ x ⌝ }
+{
+    x as usize
+}
+
+// The bytes of so many records: no count of 32 bits makes it wrap.
+fn times(size: u8, count: u32) -> usize
+    ensures { λ r. ⌜ r ≡ size * count ⌝ }
+{
+    (size as usize) * (count as usize)
+}
+
+// A file of this form: its trailer, which stands at its end.
+pub fn open_form(s: &[u8], form: Form) -> Opened
+    ensures { λ r. ⌜ r ≡ opened form (now (s .entry)) ⌝ }
+{
+    let n = s.len();
+    if n < 16 {
+        return Opened::Refused(8);
+    }
+    let t = n - 16;
+    let mark = form.mark;
+    let edition = [form.edition, 0, 0, 0];
+    let count = read_u32(s, t + 12);
+    let back = wide(read_u32(s, t + 8));
+    let twelve = first((back != times(form.size, count)) | (t < back), 12, 0);
+    let eleven = first(4096 < count, 11, twelve);
+    let ten = first(!stands4(s, t + 4, edition), 10, eleven);
+    let nine = first(!stands4(s, t, mark), 9, ten);
+    if nine != 0 {
+        return Opened::Refused(nine);
+    }
+    let count = wide(count);
+    Opened::Records {
+        first: t - back,
+        count,
+    }
+}
+
+// The form of a query file: `QEND`, edition 1, records of 116 bytes.
+fn query_form() -> Form
+    ensures { λ r. ⌜ r ≡ queryForm ⌝ }
+{
+    let mark = [81u8, 69, 78, 68];
+    Form {
+        mark,
+        edition: 1,
+        size: 116,
+    }
+}
+
+pub fn open_file(s: &[u8]) -> Opened
+    ensures { λ r. ⌜ r ≡ opened queryForm (now (s .entry)) ⌝ }
+{
+    open_form(s, query_form())
+}
+
+// ---- fetching
+
+fn no_record() -> Record
+    ensures { λ r. ⌜ r ≡ noRecord ⌝ }
+{
+    let points = [0i32; 24];
+    Record {
+        kind: 0,
+        flags: 0,
+        byte2: 0,
+        byte3: 0,
+        id: 0,
+        separation: 0,
+        tolerance: 0,
+        budget: 0,
+        points,
+    }
+}
+
+// Record n of a file. Where the record is there, it comes back beside its own refusal.
+pub fn fetch(s: &[u8], n: usize) -> Fetched
+    ensures { λ r. ⌜ r ≡ fetched (now (s .entry)) n ⌝ }
+{
+    let o = open_file(s);
+    match o {
+        Opened::Refused(number) => {
+            let query = no_record();
+            Fetched {
+                refusal: number,
+                query,
+            }
+        }
+        Opened::Records { first, count } => {
+            if count <= n {
+                let query = no_record();
+                return Fetched { refusal: 13, query };
+            }
+            let query = decode(s, first + 116 * n);
+            let refusal = record_refusal(query);
+            Fetched { refusal, query }
+        }
+    }
+}
