@@ -1,0 +1,4 @@
+-- F over a cell in the form that the code works it out in, and that every step of it fits.
+pub mod Corners
+pub mod Affine
+pub mod Steps

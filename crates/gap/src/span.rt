@@ -1,0 +1,105 @@
+// The least and the greatest of F times parts·parts over a cell's corners, on one axis.
+// At a moment F is A + u·B + v·C, so that its least over u and v is that of each term by itself.
+ghost use mathlib.Core.Path.{_≡_};
+ghost use Prim.Native.Nat.{_≤_};
+ghost use Rattle.rules.specs.Numbers.{parts};
+ghost use Rattle.kernel.specs.Ranges.{Small};
+ghost use lib.IntN.{pos, _*ℤ_};
+ghost use Rattle.whole.specs.Within.{Within};
+ghost use Rattle.gap.specs.Corners.{blended, momentOf, spanOf, summed, spanAt, joined, spanOver};
+ghost use Rattle.gap.specs.Steps.{Blends, InParts, SmallMoment, SmallSpan, blendMost, termMost};
+use kernel::Kernel;
+
+const PARTS: i64 = 1048576;
+
+// A cell's ends in parts.
+pub struct Cell {
+    pub t0: u64,
+    pub t1: u64,
+    pub u0: u64,
+    pub u1: u64,
+    pub v0: u64,
+    pub v1: u64,
+}
+
+// A, B, C of an axis at a moment, times parts.
+pub struct Moment {
+    pub a: i64,
+    pub b: i64,
+    pub c: i64,
+}
+
+pub struct Span {
+    pub least: i64,
+    pub greatest: i64,
+}
+
+// A number that goes straight from x at the start to y at the end, at the moment t, times parts.
+fn blend(t: i64, x: i64, y: i64) -> i64
+    requires { ⌜ Blends t x y ⌝ }
+    ensures { λ r. ⌜ r ≡ blended t x y ⌝ }
+{
+    (PARTS - t) * x + t * y
+}
+
+pub fn at_moment(k: Kernel, t: u64) -> Moment
+    requires { ⌜ (t ≤ parts) × Small k ⌝ }
+    ensures { λ r. ⌜ r ≡ momentOf k t ⌝ }
+{
+    let s = t as i64;
+    let a = blend(s, k.a0, k.a1);
+    let b = blend(s, k.b0, k.b1);
+    let c = blend(s, k.c0, k.c1);
+    Moment { a: a, b: b, c: c }
+}
+
+// s times the numbers from lo to hi.
+fn reach(lo: u64, hi: u64, s: i64) -> Span
+    requires { ⌜ (lo ≤ parts) × ((hi ≤ parts) × Within blendMost s) ⌝ }
+    ensures { λ r. ⌜ r ≡ spanOf (pos lo *ℤ s) (pos hi *ℤ s) ⌝ }
+{
+    let x = lo as i64 * s;
+    let y = hi as i64 * s;
+    let m = whole::least(x, y);
+    let g = whole::greatest(x, y);
+    Span { least: m, greatest: g }
+}
+
+// A number and two spans, added.
+fn sum(x: i64, s: Span, t: Span) -> Span
+    requires { ⌜ Within termMost x × (SmallSpan termMost s × SmallSpan termMost t) ⌝ }
+    ensures { λ r. ⌜ r ≡ summed x s t ⌝ }
+{
+    let m = x + s.least + t.least;
+    let g = x + s.greatest + t.greatest;
+    Span { least: m, greatest: g }
+}
+
+// The span over u and v at a moment, term by term.
+fn over_face(m: Moment, w: Cell) -> Span
+    requires { ⌜ SmallMoment m × InParts w ⌝ }
+    ensures { λ r. ⌜ r ≡ spanAt m w ⌝ }
+{
+    let u = reach(w.u0, w.u1, m.b);
+    let v = reach(w.v0, w.v1, m.c);
+    sum(PARTS * m.a, u, v)
+}
+
+// The span of two spans.
+fn join(s: Span, t: Span) -> Span
+    ensures { λ r. ⌜ r ≡ joined s t ⌝ }
+{
+    let m = whole::least(s.least, t.least);
+    let g = whole::greatest(s.greatest, t.greatest);
+    Span { least: m, greatest: g }
+}
+
+// The least and the greatest over the eight corners.
+pub fn over_corners(k: Kernel, w: Cell) -> Span
+    requires { ⌜ Small k × InParts w ⌝ }
+    ensures { λ r. ⌜ r ≡ spanOver k w ⌝ }
+{
+    let start = over_face(at_moment(k, w.t0), w);
+    let end = over_face(at_moment(k, w.t1), w);
+    join(start, end)
+}
