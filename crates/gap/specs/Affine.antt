@@ -9,7 +9,7 @@ use Rattle.whole.specs.Ring.{Ex, var, _:+_, _:*_, _:-_, ring}
 use Rattle.rules.specs.Numbers.{parts}
 use Rattle.kernel.specs.declared.Kernel.{Kernel}
 use Rattle.kernel.specs.Kernel.{kern}
-use Rattle.gap.specs.declared.span.Cell.{Cell}
+use Rattle.gap.specs.declared.cell.Cell.{Cell}
 use Rattle.gap.specs.declared.span.Span.{Span}
 use Rattle.gap.specs.Corners.{value, over, spanOver, momentOf, valueAt, spanAt, joined}
 

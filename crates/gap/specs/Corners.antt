@@ -1,13 +1,15 @@
 -- F over a cell's corners on one axis, times parts·parts.
 use Prim.Native.Nat.{ℕ, _*_}
-use lib.IntN.{ℤ, pos, _+ℤ_, _-ℤ_, _*ℤ_}
+use mathlib.Core.Bool.{Bool, _&&_}
+use lib.IntN.{ℤ, pos, negℤ, _+ℤ_, _-ℤ_, _*ℤ_}
+use lib.Signed.{leZ}
 use Rattle.whole.specs.Defs.{minZ, maxZ}
 use Rattle.rules.specs.declared.Three.{Three}
 use Rattle.rules.specs.Numbers.{parts}
-use Rattle.rules.specs.Search.{low, high}
+use Rattle.rules.specs.Search.{low, high, unit}
 use Rattle.kernel.specs.declared.Kernel.{Kernel}
 use Rattle.kernel.specs.Kernel.{kern}
-use Rattle.gap.specs.declared.span.Cell.{Cell}
+use Rattle.gap.specs.declared.cell.Cell.{Cell}
 use Rattle.gap.specs.declared.span.Moment.{Moment}
 use Rattle.gap.specs.declared.span.Span.{Span}
 
@@ -24,6 +26,10 @@ over pick K w =
 
 abbrev pub spanOver : Kernel → Cell → Span
 spanOver K w = record { least = over minZ K w; greatest = over maxZ K w }
+
+-- "m is at most d and M at least -d" on one axis
+unfoldable pub meets : Kernel → Cell → ℕ → Bool
+meets K w d = leZ (over minZ K w) (pos (d * unit)) && leZ (negℤ (pos (d * unit))) (over maxZ K w)
 
 -- a box's cell
 abbrev pub cellOf : Three → Three → Cell

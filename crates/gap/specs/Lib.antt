@@ -2,3 +2,5 @@
 pub mod Corners
 pub mod Affine
 pub mod Steps
+pub mod Grid
+pub mod Asked

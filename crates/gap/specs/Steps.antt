@@ -14,7 +14,7 @@ use Rattle.whole.specs.Within.{Within, within-add, within-sub, within-mul, with
 use Rattle.rules.specs.Numbers.{parts}
 use Rattle.kernel.specs.declared.Kernel.{Kernel}
 use Rattle.kernel.specs.Ranges.{Small}
-use Rattle.gap.specs.declared.span.Cell.{Cell}
+use Rattle.gap.specs.declared.cell.Cell.{Cell}
 use Rattle.gap.specs.declared.span.Moment.{Moment}
 use Rattle.gap.specs.declared.span.Span.{Span}
 use Rattle.gap.specs.Corners.{blended, momentOf, spanOf}

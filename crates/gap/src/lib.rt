@@ -1,6 +1,66 @@
 // Everything that the search asks about one box of a pair.
+ghost use mathlib.Core.Path.{_≡_};
+ghost use Prim.Native.Nat.{_≤_};
+ghost use Rattle.rules.specs.Search.{survives, inside};
+ghost use Rattle.kernel.specs.Kernel.{asked};
+ghost use Rattle.kernel.specs.Ranges.{Small, Ranged, Shallow, InGrid};
+ghost use Rattle.gap.specs.Corners.{meets};
+ghost use Rattle.gap.specs.Steps.{InParts};
+use cell::Cell;
+use cell::cell_of;
+use cell::low;
 use kernel::Kernel;
 use kernel::Pair;
 use rules::Three;
+use span::over_corners;
 
+mod cell; // cell.rt: a box as its ends in parts
 mod span; // span.rt: the least and the greatest of F over a cell's corners, on one axis
+
+const PARTS: u64 = 1048576;
+
+// A unit of F times parts·parts.
+const UNIT: u64 = 1099511627776;
+
+// Whether F comes within d of 0 on one axis, as far as the corners tell.
+fn meets(k: Kernel, w: Cell, d: u64) -> bool
+    requires { ⌜ Small k × (InParts w × (d ≤ 65536)) ⌝ }
+    ensures { λ r. ⌜ r ≡ meets k w d ⌝ }
+{
+    let s = over_corners(k, w);
+    let limit = (d * UNIT) as i64;
+    if s.least <= limit {
+        -limit <= s.greatest
+    } else {
+        false
+    }
+}
+
+// Whether the box survives.
+pub fn survives(p: Pair, k: Three, i: Three) -> bool
+    requires { ⌜ Ranged p × (Shallow k × InGrid k i) ⌝ }
+    ensures { λ r. ⌜ r ≡ survives (asked p) k i ⌝ }
+{
+    let w = cell_of(k, i);
+    if meets(p.x, w, p.dx) {
+        if meets(p.y, w, p.dy) {
+            meets(p.z, w, p.dz)
+        } else {
+            false
+        }
+    } else {
+        false
+    }
+}
+
+// Whether a half is kept: for vertex-face its low u plus low v is at most 1.
+pub fn inside(p: Pair, k: Three, i: Three) -> bool
+    requires { ⌜ Shallow k × InGrid k i ⌝ }
+    ensures { λ r. ⌜ r ≡ inside (asked p) k i ⌝ }
+{
+    if p.face {
+        low(k.u, i.u) + low(k.v, i.v) <= PARTS
+    } else {
+        true
+    }
+}

@@ -8,19 +8,10 @@ ghost use lib.IntN.{pos, _*ℤ_};
 ghost use Rattle.whole.specs.Within.{Within};
 ghost use Rattle.gap.specs.Corners.{blended, momentOf, spanOf, summed, spanAt, joined, spanOver};
 ghost use Rattle.gap.specs.Steps.{Blends, InParts, SmallMoment, SmallSpan, blendMost, termMost};
+use super::cell::Cell;
 use kernel::Kernel;
 
 const PARTS: i64 = 1048576;
-
-// A cell's ends in parts.
-pub struct Cell {
-    pub t0: u64,
-    pub t1: u64,
-    pub u0: u64,
-    pub u1: u64,
-    pub v0: u64,
-    pub v1: u64,
-}
 
 // A, B, C of an axis at a moment, times parts.
 pub struct Moment {
@@ -62,7 +53,10 @@ fn reach(lo: u64, hi: u64, s: i64) -> Span
     let y = hi as i64 * s;
     let m = whole::least(x, y);
     let g = whole::greatest(x, y);
-    Span { least: m, greatest: g }
+    Span {
+        least: m,
+        greatest: g,
+    }
 }
 
 // A number and two spans, added.
@@ -72,7 +66,10 @@ fn sum(x: i64, s: Span, t: Span) -> Span
 {
     let m = x + s.least + t.least;
     let g = x + s.greatest + t.greatest;
-    Span { least: m, greatest: g }
+    Span {
+        least: m,
+        greatest: g,
+    }
 }
 
 // The span over u and v at a moment, term by term.
@@ -91,7 +88,10 @@ fn join(s: Span, t: Span) -> Span
 {
     let m = whole::least(s.least, t.least);
     let g = whole::greatest(s.greatest, t.greatest);
-    Span { least: m, greatest: g }
+    Span {
+        least: m,
+        greatest: g,
+    }
 }
 
 // The least and the greatest over the eight corners.

@@ -22,8 +22,7 @@ sum-requires c κs =
     let p = c .before .before .before .before .before .before .pre in
     let m = p .0 in
     let w = p .1 in
-    let x = within-mul (within-pos 1048576) (m .a) in
-    (
+    let x = within-mul (within-pos 1048576) (m .a) in (
       rw (toZ-ofZ (fits tt (m .a)), toZ-ofZ (fits tt x)) x,
       (
         rw (c .before .before .before .before .reach .ensures, toZ-ofZ (fits tt (m .b))) (span-small (term-within (w .u0) (m .b)) (term-within (w .u1) (m .b))),
@@ -35,13 +34,14 @@ returns : tie.Need-returns
 returns c =
     let m = c .before .before .before .before .before .before .before .pre .0 in
     let x = within-mul (within-pos 1048576) (m .a) in
-    rw
-    (c .before .before .before .before .before .reach .ensures,
-    c .before .before .before .reach2 .ensures,
-    toZ-ofZ (fits tt (m .a)),
-    toZ-ofZ (fits tt x),
-    toZ-ofZ (fits tt (m .b)),
-    toZ-ofZ (fits tt (m .c)))
+    rw (
+      c .before .before .before .before .before .reach .ensures,
+      c .before .before .before .reach2 .ensures,
+      toZ-ofZ (fits tt (m .a)),
+      toZ-ofZ (fits tt x),
+      toZ-ofZ (fits tt (m .b)),
+      toZ-ofZ (fits tt (m .c)),
+    )
     at (c .sum .ensures)
 
 pub over-face-spec : {M : Type 1} → statement M

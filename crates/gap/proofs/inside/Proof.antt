@@ -1,0 +1,31 @@
+-- `gap::inside` meets its contract.
+use borrow.Author.Needs.{needs}
+use mathlib.Core.Path.{_∙_}
+use native.Mathlib.Omega.{arith}
+use Rattle.rules.specs.Search.{inside}
+use Rattle.gap.specs.Grid.{in-parts-of}
+use Rattle.gap.proofs.inside.Statement.{statement}
+use Rattle.gap.proofs.inside.Tie as tie
+
+low-requires : tie.Need-low-requires
+low-requires c κs = search needs
+
+low-requires-2 : tie.Need-low-requires-2
+low-requires-2 c κs = search needs
+
+add-result : tie.Need-add-result
+add-result c =
+    let p = c .before .before .before .pre in
+    let w = in-parts-of (p .0) (p .1) in
+    omega (arith, w .u0, w .v0)
+
+returns : tie.Need-returns
+unfolding inside
+returns c = rw (c .before .low .ensures, c .low2 .ensures, c .before .before .if1 .taken)
+
+returns-2 : tie.Need-returns-2
+unfolding inside
+returns-2 c = rw (c .if1 .left)
+
+pub inside-spec : {M : Type 1} → statement M
+inside-spec = tie.close (tie.spec low-requires low-requires-2 add-result returns returns-2)
