@@ -1,12 +1,34 @@
 -- What the written search asks of a pair's box, axis by axis, over the box's cell.
-use mathlib.Core.Path.{_≡_, refl}
+use mathlib.Core.Path.{_≡_, refl, sym, ap, _∙_}
+use mathlib.Core.Bool.{Bool, true, false, _&&_}
+use Prim.Native.Nat.{ℕ, _*_, max}
+use native.Mathlib.Omega.{arith}
+use borrow.Author.Tests.{le-leb, lt-leb, leb-true, leb-false}
+use lib.Dec.{leb}
+use lib.IntN.{natAbs, _-ℤ_}
 use Rattle.whole.specs.Defs.{minZ, maxZ}
 use Rattle.rules.specs.declared.Three.{Three}
 use Rattle.rules.specs.Gap.{Axis, X, Y, Z}
-use Rattle.rules.specs.Search.{overCorners, least, greatest, survives, onAll}
+use Rattle.rules.specs.Search.{overCorners, least, greatest, survives, excess, width, onAll, largest, unit}
 use Rattle.kernel.specs.declared.Pair.{Pair}
 use Rattle.kernel.specs.Kernel.{asked, onAxis, apartOn}
-use Rattle.gap.specs.Corners.{over, cellOf, meets}
+use Rattle.gap.specs.Corners.{over, cellOf, meets, excessOf, isThin}
+
+and-assoc : (a b c : Bool) → (a && b && c) ≡ (a && (b && c))
+and-assoc true b c = refl
+and-assoc false b c = refl
+
+leb-max : (x y n : ℕ) → (leb x n && leb y n) ≡ leb (max x y) n
+leb-max x y n = go (leb x n) (leb y n) refl refl
+  where
+    go : (a b : Bool) → leb x n ≡ a → leb y n ≡ b → (a && b) ≡ leb (max x y) n
+    go true true e f = sym (le-leb (max x y) n (omega (arith, leb-true x n e, leb-true y n f)))
+    go true false e f = sym (lt-leb (max x y) n (omega (arith, leb-false y n f)))
+    go false b e f = sym (lt-leb (max x y) n (omega (arith, leb-false x n e)))
+
+leb-largest : (f : Axis → ℕ) (n : ℕ) → onAll (λ axis. leb (f axis) n) ≡ leb (largest f) n
+leb-largest f n =
+    and-assoc (leb (f X) n) (leb (f Y) n) (leb (f Z) n) ∙ ap (λ (b : Bool). leb (f X) n && b) (leb-max (f Y) (f Z) n) ∙ leb-max (f X) (max (f Y) (f Z)) n
 
 module _ (p : Pair) (k i : Three) where
   pub least-is : (axis : Axis) → over minZ (onAxis p axis) (cellOf k i) ≡ least (asked p) k i axis
@@ -20,3 +42,11 @@ module _ (p : Pair) (k i : Three) where
   pub survives-is : onAll (λ axis. meets (onAxis p axis) (cellOf k i) (apartOn p axis)) ≡ survives (asked p) k i
   unfolding meets over minZ maxZ survives least greatest overCorners
   survives-is = refl
+
+  pub excess-is : excessOf p (cellOf k i) ≡ excess (asked p) k i
+  unfolding excessOf excess
+  excess-is = refl
+
+  pub width-is : isThin p (cellOf k i) ≡ leb (width (asked p) k i) (p .tolerance * unit)
+  unfolding isThin over minZ maxZ width least greatest overCorners
+  width-is = leb-largest (λ axis. natAbs (greatest (asked p) k i axis -ℤ least (asked p) k i axis)) (p .tolerance * unit)

@@ -1,14 +1,16 @@
 -- F over a cell's corners on one axis, times parts·parts.
-use Prim.Native.Nat.{ℕ, _*_}
+use Prim.Native.Nat.{ℕ, _*_, _-_}
 use mathlib.Core.Bool.{Bool, _&&_}
-use lib.IntN.{ℤ, pos, negℤ, _+ℤ_, _-ℤ_, _*ℤ_}
+use lib.IntN.{ℤ, pos, negℤ, natAbs, _+ℤ_, _-ℤ_, _*ℤ_}
+use lib.Dec.{leb}
 use lib.Signed.{leZ}
 use Rattle.whole.specs.Defs.{minZ, maxZ}
 use Rattle.rules.specs.declared.Three.{Three}
 use Rattle.rules.specs.Numbers.{parts}
-use Rattle.rules.specs.Search.{low, high, unit}
+use Rattle.rules.specs.Search.{low, high, unit, largest, onAll, roundUp}
 use Rattle.kernel.specs.declared.Kernel.{Kernel}
-use Rattle.kernel.specs.Kernel.{kern}
+use Rattle.kernel.specs.declared.Pair.{Pair}
+use Rattle.kernel.specs.Kernel.{kern, onAxis, apartOn}
 use Rattle.gap.specs.declared.cell.Cell.{Cell}
 use Rattle.gap.specs.declared.span.Moment.{Moment}
 use Rattle.gap.specs.declared.span.Span.{Span}
@@ -30,6 +32,20 @@ spanOver K w = record { least = over minZ K w; greatest = over maxZ K w }
 -- "m is at most d and M at least -d" on one axis
 unfoldable pub meets : Kernel → Cell → ℕ → Bool
 meets K w d = leZ (over minZ K w) (pos (d * unit)) && leZ (negℤ (pos (d * unit))) (over maxZ K w)
+
+-- by how much F is beyond d at the low corner
+abbrev pub beyond : Kernel → Cell → ℕ → ℕ
+beyond K w d = natAbs (value K (w .t0) (w .u0) (w .v0)) - d * unit
+
+unfoldable pub excessOf : Pair → Cell → ℕ
+excessOf p w = roundUp (largest (λ axis. beyond (onAxis p axis) w (apartOn p axis)))
+
+-- "width at most the tolerance"
+abbrev pub isNarrow : Kernel → Cell → ℕ → Bool
+isNarrow K w t = leb (natAbs (over maxZ K w -ℤ over minZ K w)) (t * unit)
+
+unfoldable pub isThin : Pair → Cell → Bool
+isThin p w = onAll (λ axis. isNarrow (onAxis p axis) w (p .tolerance))
 
 -- a box's cell
 abbrev pub cellOf : Three → Three → Cell

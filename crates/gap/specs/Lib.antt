@@ -2,5 +2,6 @@
 pub mod Corners
 pub mod Affine
 pub mod Steps
+pub mod Bounds
 pub mod Grid
 pub mod Asked

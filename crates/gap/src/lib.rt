@@ -1,7 +1,7 @@
 // Everything that the search asks about one box of a pair.
 ghost use mathlib.Core.Path.{_≡_};
 ghost use Prim.Native.Nat.{_≤_};
-ghost use Rattle.rules.specs.Search.{survives, inside};
+ghost use Rattle.rules.specs.Search.{survives, inside, corner, near};
 ghost use Rattle.kernel.specs.Kernel.{asked};
 ghost use Rattle.kernel.specs.Ranges.{Small, Ranged, Shallow, InGrid};
 ghost use Rattle.gap.specs.Corners.{meets};
@@ -11,10 +11,14 @@ use cell::cell_of;
 use cell::low;
 use kernel::Kernel;
 use kernel::Pair;
+use measure::excess;
+use measure::thin;
+use rules::Corner;
 use rules::Three;
 use span::over_corners;
 
 mod cell; // cell.rt: a box as its ends in parts
+mod measure; // measure.rt: excess and width
 mod span; // span.rt: the least and the greatest of F over a cell's corners, on one axis
 
 const PARTS: u64 = 1048576;
@@ -63,4 +67,31 @@ pub fn inside(p: Pair, k: Three, i: Three) -> bool
     } else {
         true
     }
+}
+
+// What is recorded of a survivor: its low corner, with the excess there.
+pub fn corner(p: Pair, k: Three, i: Three) -> Corner
+    requires { ⌜ Ranged p × (Shallow k × InGrid k i) ⌝ }
+    ensures { λ r. ⌜ r ≡ corner (asked p) k i ⌝ }
+{
+    let w = cell_of(k, i);
+    let e = excess(p, w);
+    let t = w.t0 as u32;
+    let u = w.u0 as u32;
+    let v = w.v0 as u32;
+    Corner {
+        t: t,
+        u: u,
+        v: v,
+        excess: e,
+    }
+}
+
+// Whether the first survivor of a level is close enough: excess 0, or width within the tolerance.
+pub fn near(p: Pair, k: Three, i: Three) -> bool
+    requires { ⌜ Ranged p × (Shallow k × InGrid k i) ⌝ }
+    ensures { λ r. ⌜ r ≡ near (asked p) k i ⌝ }
+{
+    let w = cell_of(k, i);
+    if excess(p, w) == 0 { true } else { thin(p, w) }
 }

@@ -6,7 +6,7 @@ ghost use Rattle.rules.specs.Numbers.{parts};
 ghost use Rattle.kernel.specs.Ranges.{Small};
 ghost use lib.IntN.{pos, _*ℤ_};
 ghost use Rattle.whole.specs.Within.{Within};
-ghost use Rattle.gap.specs.Corners.{blended, momentOf, spanOf, summed, spanAt, joined, spanOver};
+ghost use Rattle.gap.specs.Corners.{blended, momentOf, valueAt, spanOf, summed, spanAt, joined, spanOver};
 ghost use Rattle.gap.specs.Steps.{Blends, InParts, SmallMoment, SmallSpan, blendMost, termMost};
 use super::cell::Cell;
 use kernel::Kernel;
@@ -102,4 +102,12 @@ pub fn over_corners(k: Kernel, w: Cell) -> Span
     let start = over_face(at_moment(k, w.t0), w);
     let end = over_face(at_moment(k, w.t1), w);
     join(start, end)
+}
+
+// F at a moment.
+pub fn value(m: Moment, u: u64, v: u64) -> i64
+    requires { ⌜ SmallMoment m × ((u ≤ parts) × (v ≤ parts)) ⌝ }
+    ensures { λ r. ⌜ r ≡ valueAt m u v ⌝ }
+{
+    PARTS * m.a + u as i64 * m.b + v as i64 * m.c
 }

@@ -1,0 +1,67 @@
+// How far F is from contact at a cell's low corner, and how far apart its corner values are.
+ghost use mathlib.Core.Path.{_≡_};
+ghost use Prim.Native.Nat.{_≤_, _*_, _-_};
+ghost use lib.Dec.{leb};
+ghost use lib.IntN.{natAbs};
+ghost use Rattle.rules.specs.Search.{unit};
+ghost use Rattle.kernel.specs.Ranges.{Small, Ranged};
+ghost use Rattle.gap.specs.Corners.{beyond, excessOf, isNarrow, isThin};
+ghost use Rattle.gap.specs.Steps.{InParts};
+use super::cell::Cell;
+use super::span::at_moment;
+use super::span::over_corners;
+use super::span::value;
+use kernel::Kernel;
+use kernel::Pair;
+use whole::larger;
+use whole::size;
+
+// A unit of F times parts·parts.
+const UNIT: u64 = 1099511627776;
+
+// By how much F is beyond d units on one axis, at the low corner.
+fn beyond(k: Kernel, w: Cell, d: u64) -> u64
+    requires { ⌜ Small k × (InParts w × (d ≤ 65536)) ⌝ }
+    ensures { λ r. ⌜ r ≡ beyond k w d ⌝ }
+{
+    let n = size(value(at_moment(k, w.t0), w.u0, w.v0));
+    let limit = d * UNIT;
+    if n <= limit { 0 } else { n - limit }
+}
+
+// The excess at the low corner, in units, rounded up.
+pub fn excess(p: Pair, w: Cell) -> u32
+    requires { ⌜ Ranged p × InParts w ⌝ }
+    ensures { λ r. ⌜ r ≡ excessOf p w ⌝ }
+{
+    let x = beyond(p.x, w, p.dx);
+    let y = beyond(p.y, w, p.dy);
+    let z = beyond(p.z, w, p.dz);
+    let n = larger(x, larger(y, z));
+    ((n + (UNIT - 1)) / UNIT) as u32
+}
+
+// Whether the corner values are at most t units apart on one axis. Their difference can be 2^63, so that it is not taken.
+fn narrow(k: Kernel, w: Cell, t: u64) -> bool
+    requires { ⌜ Small k × (InParts w × (t ≤ 1048576)) ⌝ }
+    ensures { λ r. ⌜ r ≡ isNarrow k w t ⌝ }
+{
+    let s = over_corners(k, w);
+    s.greatest <= s.least + (t * UNIT) as i64
+}
+
+// Whether the width is within the tolerance.
+pub fn thin(p: Pair, w: Cell) -> bool
+    requires { ⌜ Ranged p × InParts w ⌝ }
+    ensures { λ r. ⌜ r ≡ isThin p w ⌝ }
+{
+    if narrow(p.x, w, p.tolerance) {
+        if narrow(p.y, w, p.tolerance) {
+            narrow(p.z, w, p.tolerance)
+        } else {
+            false
+        }
+    } else {
+        false
+    }
+}
