@@ -1,5 +1,5 @@
 -- Demand 3: what specs/Promise.antt states, proved of the written search of every record with every number of words.
-use mathlib.Core.Path.{_≡_, refl, sym, subst}
+use mathlib.Core.Path.{_≡_, refl, sym, ap, _∙_, subst}
 use Prim.Native.Nat.{ℕ, zero, suc, _+_, _*_, _≤_, _<_}
 use native.Mathlib.Omega.{arith}
 use lib.Dec.{T}
@@ -10,10 +10,10 @@ use Rattle.rules.specs.Answers.{told}
 use Rattle.rules.specs.Gap.{Place, OnBodies, isVertexFace}
 use Rattle.rules.specs.Refusals.{searchRefusal}
 use Rattle.rules.specs.Search.{query, run, unless, search}
-use Rattle.promise.specs.Promise.{Clear-is-clear, No-earlier, There, Within-tolerance, Promised}
+use Rattle.promise.specs.Promise.{Clear-is-clear, No-earlier, There, Within-tolerance, Promised, Demand-3, Refused-exactly}
 use Rattle.promise.proofs.Halves.{Domain}
 use Rattle.promise.proofs.Levels.{Moment, Kept}
-use Rattle.promise.proofs.Refused.{accepted-kept}
+use Rattle.promise.proofs.Accepted.{accepted-kept, run-ended}
 
 -- ---- from the search's question to the record
 module _ (r : Record) (words : ℕ) where
@@ -58,9 +58,9 @@ module _ (r : Record) (words : ℕ) where
       }
 
 -- ---- demand 3
-pub promised : (r : Record) (words : ℕ) → Promised r (told (search r words))
+pub demand-3 : Demand-3
 unfolding search unless
-promised r words = go (searchRefusal r words) refl
+demand-3 r words = go (searchRefusal r words) refl
   where
     go : (n : ℕ) → searchRefusal r words ≡ n → Promised r (told (unless n (run (query r words))))
     go zero e = kept-promised r words (run (query r words)) (accepted-kept r words e)
@@ -68,7 +68,7 @@ promised r words = go (searchRefusal r words) refl
 
 -- for a caller of the code, whose contract says that what it answers is what the written search does
 pub answer-promised : (r : Record) (words : ℕ) (a : Answer) → a ≡ search r words → Promised r (told a)
-answer-promised r words a e = subst (λ x. Promised r (told x)) (sym e) (promised r words)
+answer-promised r words a e = subst (λ x. Promised r (told x)) (sym e) (demand-3 r words)
 
 -- ---- each by itself, of any such answer
 module _ (r : Record) (words : ℕ) (a : Answer) (e : a ≡ search r words) where
@@ -83,3 +83,18 @@ module _ (r : Record) (words : ℕ) (a : Answer) (e : a ≡ search r words) wher
 
   pub within-tolerance : Within-tolerance r (told a)
   within-tolerance = answer-promised r words a e .within-tolerance
+
+-- ---- refusals
+pub refused-exactly : Refused-exactly
+unfolding search unless
+refused-exactly r words n = (λ e. there (searchRefusal r words) refl e, λ p. ap (λ (k : ℕ). unless k (run (query r words))) (p .1) ∙ back n (p .0))
+  where
+    there : (k : ℕ) → searchRefusal r words ≡ k → unless k (run (query r words)) ≡ Refused n → (0 < n) × (searchRefusal r words ≡ n)
+    there zero e f = absurd (run-ended r words n e f)
+    there (suc k) e f =
+        let g : suc k ≡ n = cc in
+        (omega arith, e ∙ g)
+
+    back : (k : ℕ) → 0 < k → unless k (run (query r words)) ≡ Refused k
+    back zero h = absurd (omega arith)
+    back (suc k) h = refl

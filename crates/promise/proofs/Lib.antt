@@ -9,5 +9,6 @@ pub mod Halves
 pub mod First
 pub mod Corner
 pub mod Levels
-pub mod Refused
+pub mod Accepted
 pub mod Demands
+pub mod Sharp

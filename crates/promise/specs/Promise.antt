@@ -1,15 +1,21 @@
 -- What an answer promises of the record that was searched (demand 3). Read `Place`, `OnBodies` and `Contact` in rules/specs/Gap.antt and `told` in
--- rules/specs/Answers.antt, then this page; no more is needed. proofs/Demands.antt has the theorem:
---     promised : (r : Record) (words : ℕ) → Promised r (told (search r words))
-use Prim.Native.Nat.{ℕ, _+_, _*_, _≤_}
+-- rules/specs/Answers.antt, then this page; no more is needed. proofs/Demands.antt proves `Demand-3` and `Refused-exactly`.
+use Prim.Native.Nat.{ℕ, _+_, _*_, _≤_, _<_}
 use mathlib.Core.Path.{_≡_}
+use mathlib.Core.Logic.{_↔_}
 use mathlib.Core.Bool.{Bool, _||_}
 use lib.IntN.{natAbs}
 use lib.Dec.{T, eqb}
 use Rattle.rules.specs.declared.Record.{Record}
+use Rattle.rules.specs.declared.Answer.the-variants.{Refused}
 use Rattle.rules.specs.declared.Told.{Told}
 use Rattle.rules.specs.Numbers.{parts}
 use Rattle.rules.specs.Gap.{Axis, gapOn, sided, isVertexFace, separationOn, Place, OnBodies, Contact}
+use Rattle.rules.specs.Answers.{told}
+use Rattle.rules.specs.Refusals.{searchRefusal}
+use Rattle.rules.specs.Search.{search}
+
+-- ---- an answer
 
 -- MET, SPENT, ROOM and FLOOR (words 1, 3, 4, 5) answer a moment
 abbrev pub hasMoment : Told → Bool
@@ -23,6 +29,8 @@ answered a = record { q = parts; a = a .t; b = a .u; c = a .v }
 abbrev pub Within : Record → ℕ → Place → Type 0
 Within r more m =
     (axis : Axis) → natAbs (gapOn (isVertexFace r) (sided r) axis (m .q) (m .a) (m .b) (m .c)) ≤ (separationOn r axis + more) * (m .q * m .q)
+
+-- ---- the four promises
 
 -- CLEAR (word 2): there is no contact, at no rational moment and place on the bodies
 abbrev pub Clear-is-clear : Record → Told → Type 0
@@ -40,9 +48,19 @@ There r a = T (hasMoment a) → OnBodies r (answered a) × Within r (a .excess) 
 abbrev pub Within-tolerance : Record → Told → Type 0
 Within-tolerance r a = a .word ≡ 1 → a .excess ≤ r .tolerance
 
--- demand 3: all four
+-- all four
 pub record Promised (r : Record) (a : Told) : Type 0 where
   pub clear-is-clear : Clear-is-clear r a
   pub no-earlier : No-earlier r a
   pub there : There r a
   pub within-tolerance : Within-tolerance r a
+
+-- ---- of the written search
+
+-- demand 3: the search of every record, with every number of queue words
+abbrev pub Demand-3 : Type 0
+Demand-3 = (r : Record) (words : ℕ) → Promised r (told (search r words))
+
+-- refused with n exactly when n is the lowest of 1 to 7 that is due; so what is not refused is answered, and never cut off
+abbrev pub Refused-exactly : Type 0
+Refused-exactly = (r : Record) (words n : ℕ) → (search r words ≡ Refused n) ↔ ((0 < n) × (searchRefusal r words ≡ n))

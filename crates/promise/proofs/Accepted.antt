@@ -1,18 +1,16 @@
--- A search is refused exactly for the first refusal that is due, and an accepted one is answered.
-use mathlib.Core.Path.{_≡_, refl, ap, _∙_, subst}
-use mathlib.Core.Logic.{_↔_}
+-- What is not refused is answered: the budget is not 0, and 61 levels are enough.
+use mathlib.Core.Path.{_≡_, subst}
 use mathlib.Core.Bool.{Bool, true, false, not, cond, _&&_}
 use mathlib.Core.List.{List, [], _∷_, _++_}
-use Prim.Native.Nat.{ℕ, zero, suc, _<_}
+use Prim.Native.Nat.{ℕ, _<_}
 use native.Mathlib.Omega.{arith}
 use lib.Dec.{T, leb, leb→le}
 use Rattle.rules.specs.declared.Record.{Record}
-use Rattle.rules.specs.declared.Answer.{Answer}
 use Rattle.rules.specs.declared.Answer.the-variants.{Refused}
 use Rattle.rules.specs.Numbers.{isBudget, isQueue}
 use Rattle.rules.specs.Gap.{sided, isVertexFace}
 use Rattle.rules.specs.Refusals.{Case, first, recordCases, searchRefusal}
-use Rattle.rules.specs.Search.{query, run, unless, search}
+use Rattle.rules.specs.Search.{query, run}
 use Rattle.kernel.specs.Kernel.{kernelOf}
 use Rattle.kernel.specs.Same.{gap-kernel}
 use Rattle.promise.proofs.Box.{HasKernel}
@@ -68,18 +66,3 @@ accepted-kept r words e = run-kept (query r words) (record-kernel r words) (omeg
 -- 61 levels are enough: an accepted search is never cut off
 pub run-ended : (r : Record) (words n : ℕ) → searchRefusal r words ≡ 0 → run (query r words) ≡ Refused n → ⊥
 run-ended r words n e f = subst (Kept (query r words)) f (accepted-kept r words e)
-
--- refused with a number exactly when it is the first that is due
-pub refused-exactly : (r : Record) (words n : ℕ) → (search r words ≡ Refused n) ↔ ((0 < n) × (searchRefusal r words ≡ n))
-unfolding search unless
-refused-exactly r words n = (λ e. there (searchRefusal r words) refl e, λ p. ap (λ (k : ℕ). unless k (run (query r words))) (p .1) ∙ back n (p .0))
-  where
-    there : (k : ℕ) → searchRefusal r words ≡ k → unless k (run (query r words)) ≡ Refused n → (0 < n) × (searchRefusal r words ≡ n)
-    there zero e f = absurd (run-ended r words n e f)
-    there (suc k) e f =
-        let g : suc k ≡ n = cc in
-        (omega arith, e ∙ g)
-
-    back : (k : ℕ) → 0 < k → unless k (run (query r words)) ≡ Refused k
-    back zero h = absurd (omega arith)
-    back (suc k) h = refl
