@@ -1,0 +1,4 @@
+-- Laws that the proofs cite.
+pub mod Put
+pub mod Digits
+pub mod Words

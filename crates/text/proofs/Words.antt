@@ -1,0 +1,26 @@
+-- Laws of the words: what a number that is no answer's is told as.
+-- Assumes nothing.
+use Prim.Native.Nat.{ℕ, zero, suc, _≤_, _<_}
+use mathlib.Core.Path.{_≡_, refl, sym, ap, _∙_}
+use mathlib.Core.List.{List}
+use native.Mathlib.Omega.{arith}
+use borrow.Author.Tests.{le-leb, lt-leb}
+use Rattle.text.specs.Text.{ascii, kindOf, named}
+
+pub kind-low : (w : ℕ) → w ≤ 5 → w ≡ kindOf w
+unfolding kindOf
+kind-low w h = rw (le-leb w 5 h)
+
+pub kind-high : (w : ℕ) → 5 < w → 0 ≡ kindOf w
+unfolding kindOf
+kind-high w h = rw (lt-leb w 5 h)
+
+named-high : (w : ℕ) → 5 < w → ascii " REFUSED" ≡ named w
+unfolding named
+named-high w h = rw (← kind-high w h)
+
+-- a number other than 1 to 5 is named as 0 is
+pub named-other : (w : ℕ) → (w ≡ 1 → ⊥) → (w ≡ 2 → ⊥) → (w ≡ 3 → ⊥) → (w ≡ 4 → ⊥) → (w ≡ 5 → ⊥) → ascii " REFUSED" ≡ named w
+unfolding named kindOf
+named-other zero n1 n2 n3 n4 n5 = refl
+named-other (suc w) n1 n2 n3 n4 n5 = named-high (suc w) (omega arith)

@@ -1,0 +1,35 @@
+-- `text::write_field` meets its contract. Assumes nothing.
+use native.Mathlib.Omega.{arith}
+use Rattle.text.specs.Text.{field}
+use Rattle.text.proofs.Put.{then}
+use borrow.Author.Needs.{needs}
+use Rattle.text.proofs.write_field.Statement.{statement}
+use Rattle.text.proofs.write_field.Tie as tie
+use Rattle.text.proofs.write_field.Reads as reads
+use Rattle.text.proofs.write_field.Lts as lts
+use Rattle.text.proofs.write_byte.Reads as write-byte-reads
+use Rattle.text.proofs.write_number.Reads as write-number-reads
+
+-- src/lib.rt:58:9
+write-byte-requires : tie.Need-write-byte-requires
+write-byte-requires c κs = search needs
+
+-- src/lib.rt:59:5
+write-number-requires : tie.Need-write-number-requires
+write-number-requires c κs = search needs
+
+-- src/lib.rt:54:1
+same-length : tie.Need-same-length
+same-length c = search needs
+
+-- src/lib.rt:54:1
+returns : tie.Need-returns
+unfolding field
+returns c =
+    let w = c .before .before in
+    let b = w .before .before .before .before in
+    then (b .write-byte .ensures) (w .write-number .ensures) (omega arith)
+
+pub write-field-spec : {M : Type 1} → statement M
+write-field-spec =
+    tie.close (tie.spec write-byte-requires write-number-requires same-length returns)
