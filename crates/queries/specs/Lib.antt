@@ -1,3 +1,4 @@
 -- The laws of the query file.
 pub mod Coordinates
 pub mod Opening
+pub mod Writing

@@ -177,3 +177,57 @@ pub fn fetch(s: &[u8], n: usize) -> Fetched
         }
     }
 }
+
+// ---- writing
+
+// How many of `n` bytes stand from `at` on: none past the end.
+fn left_from(n: usize, at: usize) -> usize
+    ensures { λ r. ⌜ r ≡ n - at ⌝ }
+{
+    if at <= n { n - at } else { 0 }
+}
+
+// The 116 bytes of a record, from `at` on.
+pub fn write_record(s: &mut [u8], at: usize, r: Record) -> Wrote
+    ensures { λ w. ⌜ Written (writeRefusal (now (s .entry)) at r) (now (s .entry)) at (recordBytes r) (now (s .exit)) w ⌝ }
+{
+    let fourteen = first(left_from(s.len(), at) < 116, 14, 0);
+    let own = record_refusal(r);
+    let number = first(own != 0, own, fourteen);
+    if number != 0 {
+        return Wrote::Refused(number);
+    }
+    encode(s, at, r);
+    Wrote::Done
+}
+
+fn encode_trailer(s: &mut [u8], at: usize, form: Form, count: u32)
+    requires { ⌜ (at + 16 ≤ length (now s)) × (count ≤ 4096) ⌝ }
+    ensures { λ _. ⌜ now (s .exit) ≡ put (now (s .entry)) at (trailerBytes form count) ⌝ }
+{
+    let mark = form.mark;
+    write4(s, at, mark[0], mark[1], mark[2], mark[3]);
+    write4(s, at + 4, form.edition, 0, 0, 0);
+    write_u32(s, at + 8, times(form.size, count) as u32);
+    write_u32(s, at + 12, count);
+}
+
+// The 16 bytes of a trailer of this form, from `at` on, behind so many records.
+pub fn write_trailer_form(s: &mut [u8], at: usize, form: Form, count: u32) -> Wrote
+    ensures { λ w. ⌜ Written (trailerRefusal form (now (s .entry)) at count) (now (s .entry)) at (trailerBytes form count) (now (s .exit)) w ⌝ }
+{
+    let fourteen = first(left_from(s.len(), at) < 16, 14, 0);
+    let twelve = first(at < times(form.size, count), 12, fourteen);
+    let number = first(4096 < count, 11, twelve);
+    if number != 0 {
+        return Wrote::Refused(number);
+    }
+    encode_trailer(s, at, form, count);
+    Wrote::Done
+}
+
+pub fn write_trailer(s: &mut [u8], at: usize, count: u32) -> Wrote
+    ensures { λ w. ⌜ Written (trailerRefusal queryForm (now (s .entry)) at count) (now (s .entry)) at (trailerBytes queryForm count) (now (s .exit)) w ⌝ }
+{
+    write_trailer_form(s, at, query_form(), count)
+}

@@ -1,0 +1,62 @@
+-- `queries::write_record` meets its contract. Assumes nothing.
+use mathlib.Core.Path.{_≡_, sym, _∙_}
+use Rattle.rules.specs.QueryFile.{recordBytes, writeRefusal}
+use Rattle.queries.specs.Writing.{refused-write, done-write, write-is, write-room}
+use borrow.Author.Needs.{needs}
+use Rattle.queries.proofs.write_record.Statement.{statement}
+use Rattle.queries.proofs.write_record.Tie as tie
+
+-- the number that the tests come to
+number : (c : tie.After-first2) → let a = c .before .before .before .before .before .args in c .first2 .result ≡ writeRefusal (a .s .now) (a .at) (a .r)
+number c =
+    let a = c .before .before .before .before .before .args in
+    simp (c .first2 .ensures, c .before .record-refusal .ensures, c .before .before .first .ensures, c .before .before .before .left-from .ensures)
+    (sym (write-is (a .s .now) (a .at) (a .r)))
+
+left-from-requires : tie.Need-left-from-requires
+left-from-requires c κs = search needs
+
+first-requires : tie.Need-first-requires
+first-requires c κs = search needs
+
+record-refusal-requires : tie.Need-record-refusal-requires
+record-refusal-requires c κs = search needs
+
+first-requires-2 : tie.Need-first-requires-2
+first-requires-2 c κs = search needs
+
+returns : tie.Need-returns
+returns c =
+    let k = c .before in
+    let a = k .before .before .before .before .before .args in
+    refused-write (writeRefusal (a .s .now) (a .at) (a .r)) (a .s .now) (a .at) (recordBytes (a .r)) (k .first2 .result) (number k) (c .if1 .taken)
+
+encode-requires : tie.Need-encode-requires
+encode-requires c κs =
+    let k = c .before .before in
+    let a = k .before .before .before .before .before .args in
+    write-room (a .s .now) (a .at) (a .r) (sym (number k) ∙ c .before .if1 .left) .1
+
+same-length : tie.Need-same-length
+same-length c = search needs
+
+returns-2 : tie.Need-returns-2
+returns-2 c =
+    let w = c .before .before in
+    let k = w .before .before .before in
+    let a = k .before .before .before .before .before .args in
+    done-write (writeRefusal (a .s .now) (a .at) (a .r)) (a .s .now) (a .at) (recordBytes (a .r)) (k .first2 .result) (w .encode .last .0)
+    (number k) (w .before .before .if1 .left) (w .encode .ensures)
+
+pub write-record-spec : {M : Type 1} → statement M
+write-record-spec =
+    tie.close
+    (tie.spec
+    left-from-requires
+    first-requires
+    record-refusal-requires
+    first-requires-2
+    returns
+    encode-requires
+    same-length
+    returns-2)

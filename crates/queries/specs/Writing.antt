@@ -1,0 +1,70 @@
+-- Laws of the writers.
+--     refused-write, done-write    a writer's answer and the bytes after it, by its refusal
+--     write-is, write-room         the refusal of a record, as the code makes it, and what none says
+--     trailer-room                 what no refusal of a trailer says
+-- Assumes nothing.
+use Prim.Native.Nat.{ℕ, zero, suc, _+_, _-_, _*_, _<_, _≤_}
+use mathlib.Core.Path.{_≡_, refl, sym, ap, _∙_}
+use mathlib.Core.Bool.{Bool, true, false, not, cond}
+use mathlib.Core.List.{List, [], _∷_, _++_}
+use native.Mathlib.Omega.{arith}
+use native.Mathlib.Nat.{mul-le-mul}
+use borrow.Author.Tests.{ltb-false}
+use lib.Dec.{ltb, eqb, eqb·suc-zero}
+use lib.ListN.{length, drop}
+use Rattle.rules.specs.declared.Record.{Record}
+use Rattle.rules.specs.declared.Form.{Form}
+use Rattle.rules.specs.declared.Wrote.the-variants.{Done, Refused}
+use Rattle.rules.specs.Refusals.{Case, first, recordCases, recordRefusal}
+use Rattle.rules.specs.QueryFile.{put, space, writeRefusal, trailerRefusal, wroteUnless, putUnless, Written}
+use Rattle.refusals.specs.Cases.{orElse, first-then, not-due}
+
+-- ---- by the refusal's number
+module _ (n : ℕ) (s : List ℕ) (at : ℕ) (bytes : List ℕ) where
+  pub refused-write : (k : ℕ) → k ≡ n → (k ≡ 0 → ⊥) → Written n s at bytes s (Refused k)
+  unfolding wroteUnless putUnless
+  refused-write zero e h = absurd (h refl)
+  refused-write (suc k) e h = record { says = rw (sym e); leaves = rw (sym e) }
+
+  pub done-write : (k : ℕ) (after : List ℕ) → k ≡ n → k ≡ 0 → after ≡ put s at bytes → Written n s at bytes after Done
+  unfolding wroteUnless putUnless
+  done-write k after e z p = let none : n ≡ 0 = sym e ∙ z in record { says = rw none; leaves = rw none p }
+
+-- ---- a record
+else-is : (k m : ℕ) → cond (not (eqb k 0)) k m ≡ orElse k m
+else-is zero m = refl
+else-is (suc k) m = rw (eqb·suc-zero k)
+
+module _ (s : List ℕ) (at : ℕ) (r : Record) where
+  pub write-is : writeRefusal s at r ≡ cond (not (eqb (recordRefusal r) 0)) (recordRefusal r) (cond (ltb (length s - at) 116) 14 0)
+  unfolding writeRefusal recordRefusal first
+  write-is = first-then (recordCases r) (space s at 116 ∷ []) tt ∙ sym (else-is (recordRefusal r) (cond (ltb (length s - at) 116) 14 0))
+
+  none : (k m : ℕ) → orElse k m ≡ 0 → (k ≡ 0) × (m ≡ 0)
+  none zero m e = (refl, e)
+  none (suc k) m e = let z : suc k ≡ 0 = e in absurd (omega arith)
+
+  pub write-room : writeRefusal s at r ≡ 0 → (recordRefusal r ≡ 0) × (at + 116 ≤ length s)
+  unfolding first
+  write-room e =
+      let h = none (recordRefusal r) (cond (ltb (length s - at) 116) 14 0) (sym (write-is ∙ else-is (recordRefusal r) (cond (ltb (length s - at) 116) 14 0)) ∙ e) in
+      let l = ltb-false (length s - at) 116 (not-due 13 (ltb (length s - at) 116) [] (h .1) .0) in
+      (h .0, omega arith)
+
+-- ---- a trailer
+pub few-bytes : (size n : ℕ) → size < 256 → n ≤ 4096 → size * n ≤ 1044480
+few-bytes size n h k = let h′ : size ≤ 255 = omega arith in mul-le-mul h′ k
+
+pub record TrailerRoom (form : Form) (s : List ℕ) (at n : ℕ) : Type 0 where
+  pub few : n ≤ 4096
+  pub back : form .size * n ≤ at
+  pub room : at + 16 ≤ length s
+
+pub trailer-room : (form : Form) (s : List ℕ) (at n : ℕ) → trailerRefusal form s at n ≡ 0 → TrailerRoom form s at n
+unfolding trailerRefusal
+trailer-room form s at n e =
+    let h14 = space s at 16 ∷ [] in
+    let h11 = not-due 10 (ltb 4096 n) (record { number = 12; due = ltb at (form .size * n) } ∷ h14) e in
+    let h12 = not-due 11 (ltb at (form .size * n)) h14 (h11 .1) in
+    let l = ltb-false (length s - at) 16 (not-due 13 (ltb (length s - at) 16) [] (h12 .1) .0) in
+    record { few = ltb-false 4096 n (h11 .0); back = ltb-false at (form .size * n) (h12 .0); room = omega arith }
