@@ -24,7 +24,11 @@ module _ (r : Record) (words : ℕ) where
   on-bodies d = record { positive = d .positive; t = d .t; u = d .u; v = d .v; face = d .face }
 
   -- a word that answers a moment
-  moment-promised : (word t u v excess count : ℕ) → (word ≡ 2 → ⊥) → (word ≡ 1 → excess ≤ r .tolerance) → Moment (query r words) t u v excess → Promised r (record { word = word; t = t; u = u; v = v; excess = excess; count = count; number = 0 })
+  moment-promised : (word t u v excess count : ℕ)
+      → (word ≡ 2 → ⊥)
+      → (word ≡ 1 → excess ≤ r .tolerance)
+      → Moment (query r words) t u v excess
+      → Promised r (record { word = word; t = t; u = u; v = v; excess = excess; count = count; number = 0 })
   moment-promised word t u v excess count not-clear met M =
       record {
         clear-is-clear = λ e. absurd (not-clear e);

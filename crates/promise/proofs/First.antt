@@ -30,7 +30,9 @@ module _ (S : Query) (k : Depths) where
   keep-after b (spent i) = spent i
   keep-after b (all i) = all i
 
-  one-after : (b : Box) (over alive : Bool) (c : Corner) (n : ℕ) (on : Bool → Corner → Checked) (l : List Box) → After c l (on true c) → After c (cond alive (b ∷ l) l) (oneBox S k b over alive true c n on)
+  one-after : (b : Box) (over alive : Bool) (c : Corner) (n : ℕ) (on : Bool → Corner → Checked) (l : List Box)
+      → After c l (on true c)
+      → After c (cond alive (b ∷ l) l) (oneBox S k b over alive true c n on)
   unfolding oneBox
   one-after b true alive c n on l h = spent n
   one-after b false false c n on l h = h
@@ -51,17 +53,25 @@ module _ (S : Query) (k : Depths) where
   one-more (spent b l i) = spent b l i
   one-more (some b l i h) = some b l i h
 
-  first-some : (b : Box) {c : Corner} {n boxes : ℕ} {l : List Box} {r : Checked} → T (not (full S k)) → After (corner S k b) l r → Outcome c n boxes (b ∷ l) (keep b r)
+  first-some : (b : Box) {c : Corner} {n boxes : ℕ} {l : List Box} {r : Checked}
+      → T (not (full S k))
+      → After (corner S k b) l r
+      → Outcome c n boxes (b ∷ l) (keep b r)
   first-some b {l = l} h (spent i) = spent b l i
   first-some b {l = l} h (all i) = some b l i h
 
-  one-first : (b : Box) (over alive : Bool) (c : Corner) (n boxes : ℕ) (on : Bool → Corner → Checked) (l : List Box) → (T over → n ≡ S .budget) → Outcome c (n + 1) boxes l (on false c) → ((d : Corner) → After d l (on true d)) → Outcome c n (suc boxes) (cond alive (b ∷ l) l) (oneBox S k b over alive false c n on)
+  one-first : (b : Box) (over alive : Bool) (c : Corner) (n boxes : ℕ) (on : Bool → Corner → Checked) (l : List Box)
+      → (T over → n ≡ S .budget)
+      → Outcome c (n + 1) boxes l (on false c)
+      → ((d : Corner) → After d l (on true d))
+      → Outcome c n (suc boxes) (cond alive (b ∷ l) l) (oneBox S k b over alive false c n on)
   unfolding oneBox firstSurvivor
   one-first b true alive c n boxes on l e f g = early n (omega arith) (e tt)
   one-first b false false c n boxes on l e f g = one-more f
   one-first b false true c n boxes on l e f g = go (near S k b) (full S k) (λ t. t) (λ t. t) (λ t. t)
     where
-      go : (x y : Bool) → (T x → T (near S k b)) → (T y → T (full S k)) → (T (not y) → T (not (full S k))) → Outcome c n (suc boxes) (b ∷ l) (keep b (firstSurvivor x y (corner S k b) (n + 1) (on true)))
+      go : (x y : Bool) → (T x → T (near S k b)) → (T y → T (full S k)) → (T (not y) → T (not (full S k)))
+          → Outcome c n (suc boxes) (b ∷ l) (keep b (firstSurvivor x y (corner S k b) (n + 1) (on true)))
       go true y p q r = met b l (n + 1) (p tt)
       go false true p q r = floor b l (n + 1) (q tt)
       go false false p q r = first-some b (r tt) (g (corner S k b))

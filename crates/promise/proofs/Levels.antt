@@ -97,7 +97,14 @@ module _ (S : Query) (H : HasKernel S) (deep : S .deepest ≤ 20) where
   room-kept true c n go h g = g
   room-kept false c n go h g = h
 
-  after-kept : (k : Depths) (c : Corner) (n boxes : ℕ) (l : List Box) (r : Checked) (go : Depths → List Box → Corner → ℕ → Answer) → Outcome S k c n boxes l r → Level S k l → Every (λ b. T (survives S k b)) l → ((i : ℕ) → i < n + boxes → i ≡ S .budget → Recorded S c) → ((k' : Depths) (new : List Box) (c' : Corner) (n' : ℕ) → Level S k' new → Recorded S c' → sum k' ≡ sum k + 1 → Kept S (go k' new c' n')) → Kept S (afterLevel S k go r)
+  -- l are the survivors; `first`: a corner is recorded, where the budget ends before the first of them; `next`: the levels after this one
+  after-kept : (k : Depths) (c : Corner) (n boxes : ℕ) (l : List Box) (r : Checked) (go : Depths → List Box → Corner → ℕ → Answer)
+      → Outcome S k c n boxes l r
+      → Level S k l
+      → Every (λ b. T (survives S k b)) l
+      → ((i : ℕ) → i < n + boxes → i ≡ S .budget → Recorded S c)
+      → ((k' : Depths) (new : List Box) (c' : Corner) (n' : ℕ) → Level S k' new → Recorded S c' → sum k' ≡ sum k + 1 → Kept S (go k' new c' n'))
+      → Kept S (afterLevel S k go r)
   unfolding afterLevel corner
   after-kept k c n boxes l r go (early i h e) L A first next = first i h e
   after-kept k c n boxes l r go (none i) L A first next = L .cover
@@ -111,11 +118,16 @@ module _ (S : Query) (H : HasKernel S) (deep : S .deepest ≤ 20) where
       new : List Box
       new = halves S (deeper (split S k) k) (split S k) (b ∷ bs)
 
-  levels-kept : (f : ℕ) (k : Depths) (boxes : List Box) (c : Corner) (n : ℕ) → 3 * S .deepest < f + sum k → Level S k boxes → ((i : ℕ) → i < n + length boxes → i ≡ S .budget → Recorded S c) → Kept S (levels f S k boxes c n)
+  levels-kept : (f : ℕ) (k : Depths) (boxes : List Box) (c : Corner) (n : ℕ)
+      → 3 * S .deepest < f + sum k
+      → Level S k boxes
+      → ((i : ℕ) → i < n + length boxes → i ≡ S .budget → Recorded S c)
+      → Kept S (levels f S k boxes c n)
   unfolding levels
   levels-kept zero k boxes c n fuel L first = absurd (omega (arith, L .shallow .t, L .shallow .u, L .shallow .v))
   levels-kept (suc f) k boxes c n fuel L first =
-      after-kept k c n (length boxes) (those (survives S k) boxes) (check S k boxes false c n) (levels f S) (check-first S k boxes c n) (survivors k boxes L) (alive k boxes L) first
+      after-kept k c n (length boxes) (those (survives S k) boxes) (check S k boxes false c n) (levels f S)
+      (check-first S k boxes c n) (survivors k boxes L) (alive k boxes L) first
       (λ k' new c' n' L' h e. levels-kept f k' new c' n' (omega arith) L' (λ i p q. h))
 
   -- ---- level 0

@@ -84,7 +84,10 @@ map-some P Q f g h (b ∷ bs) (inr w) = ⊎-map inr inr (map-some P Q f g h bs w
 
 -- ---- two lists as one
 
-take-every : (P : Box → Type 0) (x : Box) (rest : List Box → List Box) → P x → ((zs : List Box) → Every P zs → Every P (rest zs)) → (ys : List Box) → Every P ys → Every P (takeIn x rest ys)
+take-every : (P : Box → Type 0) (x : Box) (rest : List Box → List Box)
+    → P x
+    → ((zs : List Box) → Every P zs → Every P (rest zs))
+    → (ys : List Box) → Every P ys → Every P (takeIn x rest ys)
 unfolding takeIn
 take-every P x rest h f [] g = (h, f [] tt)
 take-every P x rest h f (y ∷ ys) g = go (notAfter x y) (take-every P x rest h f ys (g .1))
@@ -98,14 +101,21 @@ unfolding merge
 merge-every P [] ys f g = g
 merge-every P (x ∷ xs) ys f g = take-every P x (merge xs) (f .0) (λ zs h. merge-every P xs zs (f .1) h) ys g
 
-take-some : (P : Box → Type 0) (x : Box) (rest : List Box → List Box) (ys : List Box) → ((zs : List Box) → Some P zs → Some P (rest zs)) → P x ⊎ (((zs : List Box) → Some P (rest zs)) ⊎ Some P ys) → Some P (takeIn x rest ys)
+-- it is x, or in what `rest` has of its own, or in ys
+take-some : (P : Box → Type 0) (x : Box) (rest : List Box → List Box) (ys : List Box)
+    → ((zs : List Box) → Some P zs → Some P (rest zs))
+    → P x ⊎ (((zs : List Box) → Some P (rest zs)) ⊎ Some P ys)
+    → Some P (takeIn x rest ys)
 unfolding takeIn
 take-some P x rest [] f (inl p) = inl p
 take-some P x rest [] f (inr (inl r)) = inr (r [])
 take-some P x rest [] f (inr (inr y)) = absurd y
 take-some P x rest (y ∷ ys) f w = go (notAfter x y) w (take-some P x rest ys f)
   where
-    go : (c : Bool) → P x ⊎ (((zs : List Box) → Some P (rest zs)) ⊎ (P y ⊎ Some P ys)) → (P x ⊎ (((zs : List Box) → Some P (rest zs)) ⊎ Some P ys) → Some P (takeIn x rest ys)) → Some P (cond c (x ∷ rest (y ∷ ys)) (y ∷ takeIn x rest ys))
+    go : (c : Bool)
+        → P x ⊎ (((zs : List Box) → Some P (rest zs)) ⊎ (P y ⊎ Some P ys))
+        → (P x ⊎ (((zs : List Box) → Some P (rest zs)) ⊎ Some P ys) → Some P (takeIn x rest ys))
+        → Some P (cond c (x ∷ rest (y ∷ ys)) (y ∷ takeIn x rest ys))
     go true (inl p) r = inl p
     go true (inr (inl q)) r = inr (q (y ∷ ys))
     go true (inr (inr q)) r = inr (f (y ∷ ys) q)
@@ -149,12 +159,17 @@ after-le x y t = go (ltb (x .t) (y .t)) (λ h. nltb→le (x .t) (y .t) h) t
 later-from : {n k : ℕ} (l : List Box) → n ≤ k → From k l → From n l
 later-from l h = every-weaken (λ b g. le-trans h g) l
 
-take-ascending : (x : Box) (rest : List Box → List Box) → ((n : ℕ) → n ≤ x .t → (zs : List Box) → From n zs → From n (rest zs)) → ((zs : List Box) → Ascending zs → Ascending (rest zs)) → (ys : List Box) → Ascending ys → Ascending (takeIn x rest ys)
+take-ascending : (x : Box) (rest : List Box → List Box)
+    → ((n : ℕ) → n ≤ x .t → (zs : List Box) → From n zs → From n (rest zs))
+    → ((zs : List Box) → Ascending zs → Ascending (rest zs))
+    → (ys : List Box) → Ascending ys → Ascending (takeIn x rest ys)
 unfolding takeIn
 take-ascending x rest f s [] g = (f (x .t) (le-refl (x .t)) [] tt, s [] tt)
 take-ascending x rest f s (y ∷ ys) g = go (notAfter x y) (λ h. not-after-le x y h) (λ h. after-le x y h) (take-ascending x rest f s ys (g .1))
   where
-    go : (c : Bool) → (T c → x .t ≤ y .t) → (T (not c) → y .t ≤ x .t) → Ascending (takeIn x rest ys) → Ascending (cond c (x ∷ rest (y ∷ ys)) (y ∷ takeIn x rest ys))
+    go : (c : Bool) → (T c → x .t ≤ y .t) → (T (not c) → y .t ≤ x .t)
+        → Ascending (takeIn x rest ys)
+        → Ascending (cond c (x ∷ rest (y ∷ ys)) (y ∷ takeIn x rest ys))
     go true a b r = (f (x .t) (le-refl (x .t)) (y ∷ ys) (a tt, later-from ys (a tt) (g .0)), s (y ∷ ys) g)
     go false a b r = (take-every (λ z. y .t ≤ z .t) x rest (b tt) (λ zs h. f (y .t) (b tt) zs h) ys (g .0), r)
 

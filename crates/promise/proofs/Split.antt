@@ -26,7 +26,8 @@ unfolding winner
 winner-most t u v h =
     go (leb u t) (leb v t) (leb v u) (λ x. leb→le u t x) (λ x. nleb→lt u t x) (λ x. leb→le v t x) (λ x. nleb→lt v t x) (λ x. leb→le v u x) (λ x. nleb→lt v u x)
   where
-    go : (x y z : Bool) → (T x → u ≤ t) → (T (not x) → t < u) → (T y → v ≤ t) → (T (not y) → t < v) → (T z → v ≤ u) → (T (not z) → u < v) → 0 < ofThree (cond (x && y) InT (cond z InU InV)) t u v
+    go : (x y z : Bool) → (T x → u ≤ t) → (T (not x) → t < u) → (T y → v ≤ t) → (T (not y) → t < v) → (T z → v ≤ u) → (T (not z) → u < v)
+        → 0 < ofThree (cond (x && y) InT (cond z InU InV)) t u v
     go true true z a a' b b' c c' = omega (arith, a tt, b tt)
     go true false true a a' b b' c c' = omega (arith, b' tt, c tt)
     go true false false a a' b b' c c' = omega (arith, c' tt)

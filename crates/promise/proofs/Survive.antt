@@ -73,12 +73,19 @@ between-size : (m g M : ℤ) (d : ℕ) → m ≤ℤ g → g ≤ℤ M → m ≤�
 between-size m (pos n) M d mg gM md dM = omega (zed, abs-view (M -ℤ m), minus-view M m)
 between-size m (negsuc n) M d mg gM md dM = omega (zed, abs-view (M -ℤ m), minus-view M m, neg-up (pos d), neg-dn (pos d))
 
-pub survivor-size : (S : Query) (k : Depths) (box : Box) → T (survives S k box) → (axis : Axis) → natAbs (S .gap axis parts (low (k .t) (box .t)) (low (k .u) (box .u)) (low (k .v) (box .v))) ≤ S .separation axis * unit + natAbs (greatest S k box axis -ℤ least S k box axis)
-unfolding least greatest reaches
-survivor-size S k box t axis =
-    let both : T (leZ (least S k box axis) (pos (limitOn S axis))) × T (leZ (negℤ (pos (limitOn S axis))) (greatest S k box axis)) = and-both (leZ (least S k box axis) (pos (limitOn S axis))) (leZ (negℤ (pos (limitOn S axis))) (greatest S k box axis)) (survives-on S k box t axis) in
-    between-size (least S k box axis) (S .gap axis parts (low (k .t) (box .t)) (low (k .u) (box .u)) (low (k .v) (box .v))) (greatest S k box axis) (limitOn S axis)
-    (corner-bound from-least S k box axis false false false)
-    (corner-bound to-greatest S k box axis false false false)
-    (record { le = both .0 })
-    (record { le = both .1 })
+module _ (S : Query) (k : Depths) (box : Box) (t : T (survives S k box)) (axis : Axis) where
+  abbrev low-value : ℤ
+  low-value = S .gap axis parts (low (k .t) (box .t)) (low (k .u) (box .u)) (low (k .v) (box .v))
+
+  both-tests : T (leZ (least S k box axis) (pos (limitOn S axis))) × T (leZ (negℤ (pos (limitOn S axis))) (greatest S k box axis))
+  unfolding reaches
+  both-tests = and-both (leZ (least S k box axis) (pos (limitOn S axis))) (leZ (negℤ (pos (limitOn S axis))) (greatest S k box axis)) (survives-on S k box t axis)
+
+  pub survivor-size : natAbs low-value ≤ S .separation axis * unit + natAbs (greatest S k box axis -ℤ least S k box axis)
+  unfolding least greatest
+  survivor-size =
+      between-size (least S k box axis) low-value (greatest S k box axis) (limitOn S axis)
+      (corner-bound from-least S k box axis false false false)
+      (corner-bound to-greatest S k box axis false false false)
+      (record { le = both-tests .0 })
+      (record { le = both-tests .1 })
