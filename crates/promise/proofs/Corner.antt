@@ -1,13 +1,12 @@
 -- The low corner of a box on the grid is on the bodies, and within the separation and its excess; the excess of a survivor is at most its width.
-use mathlib.Core.Path.{_≡_, sym, ap, _∙_, subst}
+use mathlib.Core.Path.{_≡_, sym, ap, _∙_}
 use mathlib.Core.Bool.{Bool, true, false, not, _||_}
-use Prim.Native.Nat.{ℕ, _+_, _*_, _-_, _/_, _^_, _≤_, _<_, max}
+use Prim.Native.Nat.{ℕ, _+_, _*_, _-_, _^_, _≤_, _<_, max}
 use native.Mathlib.Nat.{le-trans, le-of-lt, add-mul, mul-le-mul-right, le-max-left, le-max-right, max-le, div-add-mod', mod-lt, div-lt-iff-lt-mul}
 use native.Mathlib.Omega.{arith}
 use lib.Pow.{pow-add}
-use lib.IntN.{ℤ, natAbs, _-ℤ_}
+use lib.IntN.{natAbs, _-ℤ_}
 use lib.Dec.{T, leb, eqb, leb→le, eqb→eq}
-use Rattle.rules.specs.declared.Corner.{Corner}
 use Rattle.rules.specs.Numbers.{parts}
 use Rattle.rules.specs.Gap.{Axis, X, Y, Z, Place}
 use Rattle.rules.specs.Search.{Query, Box, Depths, side, low, unit, largest, roundUp, least, greatest, survives, width, excess, near, inside}

@@ -1,13 +1,12 @@
 -- Demand 3: what specs/Promise.antt states, proved of the written search of every record with every number of words.
 use mathlib.Core.Path.{_≡_, refl, sym, ap, _∙_, subst}
-use Prim.Native.Nat.{ℕ, zero, suc, _+_, _*_, _≤_, _<_}
+use Prim.Native.Nat.{ℕ, zero, suc, _≤_, _<_}
 use native.Mathlib.Omega.{arith}
-use lib.Dec.{T}
 use Rattle.rules.specs.declared.Record.{Record}
 use Rattle.rules.specs.declared.Answer.{Answer}
 use Rattle.rules.specs.declared.Answer.the-variants.{Met, Clear, Spent, Room, Floor, Refused}
 use Rattle.rules.specs.Answers.{told}
-use Rattle.rules.specs.Gap.{Place, OnBodies, isVertexFace}
+use Rattle.rules.specs.Gap.{Place, OnBodies}
 use Rattle.rules.specs.Refusals.{searchRefusal}
 use Rattle.rules.specs.Search.{query, run, unless, search}
 use Rattle.promise.specs.Promise.{Clear-is-clear, No-earlier, There, Within-tolerance, Promised, Demand-3, Refused-exactly}

@@ -10,7 +10,6 @@ use lib.IntN.{natAbs}
 use lib.ListN.{length}
 use lib.Dec.{T, leb}
 use Rattle.rules.specs.declared.Corner.{Corner}
-use Rattle.rules.specs.declared.Parameter.{Parameter}
 use Rattle.rules.specs.declared.Answer.{Answer}
 use Rattle.rules.specs.declared.Answer.the-variants.{Met, Clear, Spent, Room, Floor, Refused}
 use Rattle.rules.specs.Numbers.{parts}

@@ -1,7 +1,7 @@
 -- The promises say enough: the answers that need no search are ruled out. And no more than is so: berth examples reach each of the four.
 use mathlib.Core.Path.{_≡_, refl}
 use mathlib.Core.List.{_++_}
-use Prim.Native.Nat.{ℕ, _+_, _*_, _-_, _≤_, _<_}
+use Prim.Native.Nat.{ℕ, _*_, _-_, _≤_, _<_}
 use native.Mathlib.Omega.{arith}
 use lib.IntN.{pos}
 use lib.Dec.{T}
@@ -11,7 +11,7 @@ use Rattle.rules.specs.declared.Answer.the-variants.{Met, Clear}
 use Rattle.rules.specs.declared.Told.{Told}
 use Rattle.rules.specs.Numbers.{parts}
 use Rattle.rules.specs.Answers.{told}
-use Rattle.rules.specs.Gap.{Axis, X, Y, Z, Place, OnBodies, Contact, moving, vertexFace, edgeEdge, gapOn, negateFrom, sided}
+use Rattle.rules.specs.Gap.{X, Y, Z, Place, OnBodies, Contact, moving, vertexFace, edgeEdge, gapOn, negateFrom, sided}
 use Rattle.rules.specs.Refusals.{first, every, searchRefusal}
 use Rattle.rules.specs.Search.{search, run, levels, afterLevel, ifRoom, halves, merge, takeIn, notAfter, those, inside, split, winner, spread, check, oneBox, near, firstSurvivor, corner, excess, width, survives, least, greatest, overCorners, unless}
 use Rattle.rules.specs.Berth.{asked, point, still, below-flag, T as face, P-T}

@@ -1,9 +1,8 @@
 -- The two sides of a number, so that what is said of the least and of the greatest is said once.
 use mathlib.Core.Path.{_≡_, refl, sym, ap, _∙_}
-use Prim.Native.Nat.{ℕ, zero, suc, _+_, _*_, _≤_, _<_}
+use Prim.Native.Nat.{ℕ, zero, suc, _*_, _≤_, _<_}
 use native.Mathlib.Nat.{mul-zero}
-use native.Mathlib.Omega.{arith}
-use lib.IntN.{ℤ, pos, negsuc, negℤ, natAbs, _*ℤ_}
+use lib.IntN.{ℤ, pos, negℤ, natAbs, _*ℤ_}
 use lib.Signed.{_≤ℤ_}
 use Rattle.whole.specs.Defs.{minZ, maxZ}
 use Rattle.whole.specs.View.{zed, abs-view, neg-up, neg-dn}

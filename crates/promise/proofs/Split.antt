@@ -1,13 +1,13 @@
 -- The parameter that a level is split in was not at full depth, while any was not.
 use mathlib.Core.Path.{_≡_}
 use mathlib.Core.Bool.{Bool, true, false, cond, not, _&&_}
-use Prim.Native.Nat.{ℕ, _+_, _*_, _≤_, _<_}
+use Prim.Native.Nat.{ℕ, _+_, _≤_, _<_}
 use native.Mathlib.Omega.{arith}
 use lib.Dec.{T, leb, eqb, leb→le, nleb→lt, eqb-refl}
 use Rattle.rules.specs.declared.Three.{Three}
 use Rattle.rules.specs.declared.Parameter.{Parameter}
 use Rattle.rules.specs.declared.Parameter.the-variants.{InT, InU, InV}
-use Rattle.rules.specs.Search.{Query, Depths, side, spread, weight, winner, split, full, deeper}
+use Rattle.rules.specs.Search.{Query, Depths, weight, winner, split, full, deeper}
 
 -- the number of a parameter
 abbrev pub at : Parameter → Three → ℕ
