@@ -1,12 +1,15 @@
 -- Laws of `stands`: bytes compared one by one.
 -- Assumes nothing.
 use Prim.Native.Nat.{ℕ, suc, _+_}
-use mathlib.Core.Path.{_≡_, refl}
+use mathlib.Core.Path.{_≡_, refl, sym, ap, _∙_}
 use mathlib.Core.Bool.{Bool, true, false, _&&_}
-use mathlib.Core.List.{List, [], _∷_}
+use mathlib.Core.List.{List, [], _∷_, _++_}
+use native.Mathlib.Nat.{add-zero}
 use native.Mathlib.Omega.{arith}
+use borrow.Author.Tests.{eq-eqb}
 use lib.Dec.{eqb}
-use lib.ListN.{length, getD}
+use lib.ListN.{length, getD, drop}
+use lib.Seq.{getD-drop, drop-drop}
 use Rattle.rules.specs.QueryFile.{stands}
 
 -- a list of four is its four
@@ -32,3 +35,12 @@ stands-four s at a b c d =
     let e2 : at + 1 + 1 ≡ at + 2 = omega arith in
     let e3 : at + 2 + 1 ≡ at + 3 = omega arith in
     rw (e2, e3) (regroup (eqb (getD s at 0) a) (eqb (getD s (at + 1) 0) b) (eqb (getD s (at + 2) 0) c) (eqb (getD s (at + 3) 0) d))
+
+-- bytes that a list goes on with stand there
+pub stands-there : (bytes rest s : List ℕ) (at : ℕ) → drop at s ≡ bytes ++ rest → stands s at bytes ≡ true
+unfolding stands
+stands-there [] rest s at e = refl
+stands-there (b ∷ bytes) rest s at e =
+    let g : getD s at 0 ≡ b = ap (λ (k : ℕ). getD s k 0) (sym (add-zero at)) ∙ sym (getD-drop at s 0 0) ∙ ap (λ (l : List ℕ). getD l 0 0) e in
+    let d : drop (at + 1) s ≡ bytes ++ rest = sym (drop-drop 1 at s) ∙ ap (drop 1) e in
+    rw (eq-eqb (getD s at 0) b g, stands-there bytes rest s (at + 1) d)

@@ -2,3 +2,5 @@
 pub mod Coordinates
 pub mod Opening
 pub mod Writing
+pub mod RoundTrip
+pub mod Files

@@ -1,0 +1,172 @@
+-- A record written and read back is that record; the bytes of a record read and written back are those bytes.
+--     Held            what every `Record` of a program is: each field fits its type
+--     held            so is a record that is accepted, with an id and 24 coordinates of 32 bits
+--     read-back       what was put is read as the record; `written-back` of a writer's buffer
+--     write-back      to put the record that stands at a place there again changes nothing
+--     same-record     no two records have the same bytes
+-- Assumes nothing.
+use Prim.Native.Nat.{ℕ, zero, suc, _+_, _*_, _≤_, _<_}
+use mathlib.Core.Path.{_≡_, refl, sym, ap, _∙_}
+use mathlib.Core.List.{List, [], _∷_, _++_, append-assoc}
+use mathlib.Core.Logic.{⊎-elim}
+use native.Mathlib.Nat.{add-assoc, add-zero}
+use native.Mathlib.Omega.{arith}
+use lib.IntN.{ℤ, pos, negsuc, natAbs}
+use lib.ListN.{length, getD, take, drop, length-drop}
+use lib.Seq.{getD-drop, drop-drop, take-add}
+use mir.Syntax.{w32}
+use mir.Val.{SFits}
+use Rattle.rules.specs.declared.Record.{Record}
+use Rattle.rules.specs.QueryFile.{word, wordBytes, signed, bits, coordinatesAt, coordinateBytes, recordAt, recordBytes, put, putUnless, writeRefusal}
+use Rattle.refusals.specs.Accepted.{Accepted}
+use Rattle.little.specs.Put.{drop-put, put-same}
+use Rattle.little.specs.Word.{Bytes, word-drop, word-back, word-at, word-lt, word-same, digits}
+use Rattle.little.specs.Signed.{signed-bits, bits-signed, bits-below}
+use Rattle.queries.specs.Coordinates.{length-bytes}
+use Rattle.queries.specs.Writing.{write-room}
+
+-- ---- coordinates
+pub coordinates-drop : (n : ℕ) (s : List ℕ) (at k : ℕ) → coordinatesAt (drop at s) k n ≡ coordinatesAt s (at + k) n
+unfolding coordinatesAt
+coordinates-drop zero s at k = refl
+coordinates-drop (suc n) s at k =
+    rw (word-drop s at k, coordinates-drop n s at (k + 4), ← add-assoc at k 4)
+
+-- each number is one that 32 bits hold
+abbrev pub Each : List ℤ → Type 0
+Each [] = Unit {0}
+Each (z ∷ zs) = SFits w32 z × Each zs
+
+drop-word : (n : ℕ) (xs ys : List ℕ) → drop 4 (wordBytes n ++ xs ++ ys) ≡ xs ++ ys
+unfolding wordBytes
+drop-word n xs ys = refl
+
+coordinates-back : (zs : List ℤ) (t : List ℕ) → Each zs → coordinatesAt (coordinateBytes zs ++ t) 0 (length zs) ≡ zs
+unfolding coordinatesAt coordinateBytes
+coordinates-back [] t h = refl
+coordinates-back (z ∷ zs) t h =
+    let l = wordBytes (bits z) ++ coordinateBytes zs ++ t in
+    let e : word l 0 ≡ bits z =
+    ap (λ (x : List ℕ). word x 0) (append-assoc (wordBytes (bits z)) (coordinateBytes zs) t) ∙ word-back (bits z) (coordinateBytes zs ++ t) (bits-below z (h .0)) in
+    let r : coordinatesAt l 4 (length zs) ≡ zs =
+    sym (coordinates-drop (length zs) l 4 0)
+    ∙ ap (λ (x : List ℕ). coordinatesAt x 0 (length zs)) (drop-word (bits z) (coordinateBytes zs) t)
+    ∙ coordinates-back zs t (h .1) in
+    rw (e, r, signed-bits z (h .0))
+
+coordinates-same : (n : ℕ) (s : List ℕ) (at : ℕ) → Bytes s → at + 4 * n ≤ length s → coordinateBytes (coordinatesAt s at n) ≡ take (4 * n) (drop at s)
+unfolding coordinatesAt coordinateBytes
+coordinates-same zero s at b h = refl
+coordinates-same (suc n) s at b h =
+    let e : 4 * suc n ≡ 4 + 4 * n = omega arith in
+    rw (e, take-add 4 (4 * n) (drop at s), drop-drop 4 at s, bits-signed (word s at) (word-lt s b at), word-same s b at (omega arith), coordinates-same n s (at + 4) b (omega arith))
+
+-- ---- records that a program holds
+pub record Held (r : Record) : Type 0 where
+  pub kind : r .kind < 256
+  pub flags : r .flags < 256
+  pub byte2 : r .byte2 < 256
+  pub byte3 : r .byte3 < 256
+  pub id : r .id < 4294967296
+  pub separation : r .separation < 4294967296
+  pub tolerance : r .tolerance < 4294967296
+  pub budget : r .budget < 4294967296
+  pub count : length (r .points) ≡ 24
+  pub points : Each (r .points)
+
+small-fits : (z : ℤ) → natAbs z ≤ 1048576 → SFits w32 z
+small-fits (pos n) h = record { sfits = omega arith }
+small-fits (negsuc n) h = record { sfits = omega arith }
+
+each : (zs : List ℤ) → ((i : ℕ) → natAbs (getD zs i (pos 0)) ≤ 1048576) → Each zs
+each [] h = tt
+each (z ∷ zs) h = (small-fits z (h 0), each zs (λ i. h (suc i)))
+
+pub held : (r : Record) → Accepted r → r .id < 4294967296 → length (r .points) ≡ 24 → Held r
+held r a i n =
+    record {
+      kind = ⊎-elim (λ e. omega arith) (λ e. omega arith) (a .kind);
+      flags = omega (arith, a .flags);
+      byte2 = omega (arith, a .byte2);
+      byte3 = omega (arith, a .byte3);
+      id = i;
+      separation = omega (arith, a .separation);
+      tolerance = omega (arith, a .tolerance-most);
+      budget = omega (arith, a .budget-most);
+      count = n;
+      points = each (r .points) (a .coordinate);
+    }
+
+-- ---- a record
+pub record-drop : (s : List ℕ) (at : ℕ) → recordAt (drop at s) 0 ≡ recordAt s at
+unfolding recordAt
+record-drop s at = simp (getD-drop, word-drop, coordinates-drop, add-zero)
+
+pub length-record : (r : Record) → Held r → length (recordBytes r) ≡ 116
+unfolding recordBytes wordBytes
+length-record r h = omega (arith, length-bytes (r .points), h .count)
+
+pub front : (r : Record) (t : List ℕ) → Held r → recordAt (recordBytes r ++ t) 0 ≡ r
+unfolding recordAt recordBytes wordBytes
+front r t h =
+    let l = recordBytes r ++ t in
+    let e1 : word l 4 ≡ r .id = word-at l _ 4 (r .id) refl (h .id) in
+    let e2 : word l 8 ≡ r .separation = word-at l _ 8 (r .separation) refl (h .separation) in
+    let e3 : word l 12 ≡ r .tolerance = word-at l _ 12 (r .tolerance) refl (h .tolerance) in
+    let e4 : word l 16 ≡ r .budget = word-at l _ 16 (r .budget) refl (h .budget) in
+    let e5 : coordinatesAt l 20 24 ≡ r .points =
+    sym (coordinates-drop 24 l 20 0) ∙ ap (λ (n : ℕ). coordinatesAt (coordinateBytes (r .points) ++ t) 0 n) (sym (h .count)) ∙ coordinates-back (r .points) t (h .points) in
+    λ i. record {
+      kind = r .kind;
+      flags = r .flags;
+      byte2 = r .byte2;
+      byte3 = r .byte3;
+      id = e1 i;
+      separation = e2 i;
+      tolerance = e3 i;
+      budget = e4 i;
+      points = e5 i;
+    }
+
+pub read-back : (s : List ℕ) (at : ℕ) (r : Record) → Held r → at + 116 ≤ length s → recordAt (put s at (recordBytes r)) at ≡ r
+read-back s at r h room =
+    sym (record-drop (put s at (recordBytes r)) at)
+    ∙ ap (λ (l : List ℕ). recordAt l 0) (drop-put s at (recordBytes r) (omega (arith, length-record r h)))
+    ∙ front r (drop (at + length (recordBytes r)) s) h
+
+-- the buffer that a writer leaves when it is done
+pub written-back : (s : List ℕ) (at : ℕ) (r : Record) → Held r → writeRefusal s at r ≡ 0 → recordAt (putUnless (writeRefusal s at r) s at (recordBytes r)) at ≡ r
+unfolding putUnless
+written-back s at r h e = rw e (read-back s at r h (write-room s at r e .1))
+
+pub same-record : (r r′ : Record) → Held r → Held r′ → recordBytes r ≡ recordBytes r′ → r ≡ r′
+same-record r r′ h h′ e = sym (front r [] h) ∙ ap (λ (l : List ℕ). recordAt (l ++ []) 0) e ∙ front r′ [] h′
+
+-- ---- the bytes of a record
+first-word : (s : List ℕ) → Bytes s → 4 ≤ length s → wordBytes (getD s 0 0 + 256 * getD s 1 0 + 65536 * getD s 2 0 + 16777216 * getD s 3 0) ≡ take 4 s
+unfolding word
+first-word s b h = word-same s b 0 h
+
+parts : (s : List ℕ) → take 4 s ++ take 4 (drop 4 s) ++ take 4 (drop 8 s) ++ take 4 (drop 12 s) ++ take 4 (drop 16 s) ++ take 96 (drop 20 s) ≡ take 116 s
+parts s = rw (← take-add 4 4 s, ← take-add 8 4 s, ← take-add 12 4 s, ← take-add 16 4 s, ← take-add 20 96 s)
+
+same-bytes : (s : List ℕ) → Bytes s → 116 ≤ length s → recordBytes (recordAt s 0) ≡ take 116 s
+unfolding recordAt recordBytes
+same-bytes s b h =
+    let w0 : getD s 0 0 ∷ getD s 1 0 ∷ getD s 2 0 ∷ getD s 3 0 ∷ [] ≡ take 4 s = sym (digits _ _ _ _ (b 0) (b 1) (b 2) (b 3)) ∙ first-word s b (omega arith) in
+    let w1 = word-same s b 4 (omega arith) in
+    let w2 = word-same s b 8 (omega arith) in
+    let w3 = word-same s b 12 (omega arith) in
+    let w4 = word-same s b 16 (omega arith) in
+    let w5 = coordinates-same 24 s 20 b h in
+    (λ i. w0 i ++ w1 i ++ w2 i ++ w3 i ++ w4 i ++ w5 i) ∙ parts s
+
+bytes-drop : (s : List ℕ) (at : ℕ) → Bytes s → Bytes (drop at s)
+bytes-drop s at b i = rw (getD-drop at s i 0) (b (at + i))
+
+pub record-bytes : (s : List ℕ) (at : ℕ) → Bytes s → at + 116 ≤ length s → recordBytes (recordAt s at) ≡ take 116 (drop at s)
+record-bytes s at b room =
+    ap recordBytes (sym (record-drop s at)) ∙ same-bytes (drop at s) (bytes-drop s at b) (simp length-drop (omega arith))
+
+pub write-back : (s : List ℕ) (at : ℕ) → Bytes s → at + 116 ≤ length s → put s at (recordBytes (recordAt s at)) ≡ s
+write-back s at b room = ap (put s at) (record-bytes s at b room) ∙ put-same s at 116 room
