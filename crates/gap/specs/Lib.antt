@@ -5,3 +5,4 @@ pub mod Steps
 pub mod Bounds
 pub mod Grid
 pub mod Asked
+pub mod Spread

@@ -1,7 +1,7 @@
 // Everything that the search asks about one box of a pair.
 ghost use mathlib.Core.Path.{_≡_};
 ghost use Prim.Native.Nat.{_≤_};
-ghost use Rattle.rules.specs.Search.{survives, inside, corner, near};
+ghost use Rattle.rules.specs.Search.{survives, inside, corner, near, split};
 ghost use Rattle.kernel.specs.Kernel.{asked};
 ghost use Rattle.kernel.specs.Ranges.{Small, Ranged, Shallow, InGrid};
 ghost use Rattle.gap.specs.Corners.{meets};
@@ -14,12 +14,19 @@ use kernel::Pair;
 use measure::excess;
 use measure::thin;
 use rules::Corner;
+use rules::Parameter;
 use rules::Three;
 use span::over_corners;
+use weigh::spread_t;
+use weigh::spread_u;
+use weigh::spread_v;
+use weigh::weight;
+use weigh::winner;
 
 mod cell; // cell.rt: a box as its ends in parts
 mod measure; // measure.rt: excess and width
 mod span; // span.rt: the least and the greatest of F over a cell's corners, on one axis
+mod weigh; // weigh.rt: what a split in each parameter is worth
 
 const PARTS: u64 = 1048576;
 
@@ -94,4 +101,15 @@ pub fn near(p: Pair, k: Three, i: Three) -> bool
 {
     let w = cell_of(k, i);
     if excess(p, w) == 0 { true } else { thin(p, w) }
+}
+
+// The parameter that every survivor of a level is split in.
+pub fn split(p: Pair, k: Three) -> Parameter
+    requires { ⌜ Ranged p × Shallow k ⌝ }
+    ensures { λ r. ⌜ r ≡ split (asked p) k ⌝ }
+{
+    let t = weight(spread_t(p), k.t);
+    let u = weight(spread_u(p), k.u);
+    let v = weight(spread_v(p), k.v);
+    winner(t, u, v)
 }

@@ -1,0 +1,42 @@
+-- `gap::weigh::spread_u` meets its contract.
+use borrow.Author.Needs.{needs}
+use mathlib.Core.Path.{_∙_}
+use mir.Facts.{toZ-ofZ}
+use Rattle.whole.specs.Within.{fits}
+use Rattle.gap.specs.Spread.{wide, spread-u}
+use Rattle.gap.proofs.weigh.spread_u.Statement.{statement}
+use Rattle.gap.proofs.weigh.spread_u.Tie as tie
+
+largest-requires : tie.Need-largest-requires
+largest-requires c κs =
+    let r = c .before .before .before .before .before .before .pre in
+    rw (toZ-ofZ (fits tt (r .x .b0)), toZ-ofZ (fits tt (r .y .b0)), toZ-ofZ (fits tt (r .z .b0)))
+    (wide (r .x .b0), (wide (r .y .b0), wide (r .z .b0)))
+
+largest-requires-2 : tie.Need-largest-requires-2
+largest-requires-2 c κs =
+    let r = c .before .before .before .before .before .before .before .before .before .before .pre in
+    rw (toZ-ofZ (fits tt (r .x .b1)), toZ-ofZ (fits tt (r .y .b1)), toZ-ofZ (fits tt (r .z .b1)))
+    (wide (r .x .b1), (wide (r .y .b1), wide (r .z .b1)))
+
+larger-requires : tie.Need-larger-requires
+larger-requires c κs = search needs
+
+returns : tie.Need-returns
+returns c =
+    let r = c .before .before .before .before .before .before .before .before .before .before .before .before .pre in
+    (rw (
+      c .before .before .before .before .before .largest .ensures,
+      c .before .largest2 .ensures,
+      toZ-ofZ (fits tt (r .x .b0)),
+      toZ-ofZ (fits tt (r .y .b0)),
+      toZ-ofZ (fits tt (r .z .b0)),
+      toZ-ofZ (fits tt (r .x .b1)),
+      toZ-ofZ (fits tt (r .y .b1)),
+      toZ-ofZ (fits tt (r .z .b1)),
+    )
+    at (c .larger .ensures))
+    ∙ spread-u (c .before .before .before .before .before .before .before .before .before .before .before .before .args .p)
+
+pub spread-u-spec : {M : Type 1} → statement M
+spread-u-spec = tie.close (tie.spec largest-requires largest-requires-2 larger-requires returns)
