@@ -4,7 +4,6 @@ use Prim.Native.Nat.{ℕ, _+_, _*_, _^_}
 use lib.Dec.{lit≤}
 use lib.Bits.{bitOr, or-shifted}
 use lib.Pow.{shl-exact, shl-lt}
-use borrow.Author.Needs.{needs}
 use native.Mathlib.Omega.{arith}
 use Rattle.boxes.proofs.pack.Statement.{statement}
 use Rattle.boxes.proofs.pack.Tie as tie

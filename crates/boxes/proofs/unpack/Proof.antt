@@ -1,8 +1,6 @@
 -- A mask of 20 ones is the remainder by 2 ^ 20.
 use Prim.Native.Nat.{_/_, _^_}
 use lib.Bits.{and-mask}
-use borrow.Author.Needs.{needs}
-use native.Mathlib.Omega.{arith}
 use Rattle.boxes.proofs.unpack.Statement.{statement}
 use Rattle.boxes.proofs.unpack.Tie as tie
 

@@ -1,0 +1,4 @@
+pub mod Copying
+pub mod Merging
+pub mod Growing
+pub mod Picking

@@ -1,0 +1,35 @@
+-- A box of a level fits a word, and its halves are boxes of the next level.
+use mathlib.Core.Path.{_≡_}
+use Prim.Native.Nat.{ℕ, _+_, _*_, _^_, _<_}
+use native.Mathlib.Nat.{lt-of-lt-of-le, pow-suc}
+use native.Mathlib.Numerals.{add-one}
+use native.Mathlib.Omega.{arith}
+use lib.Pow.{pow-mono}
+use Rattle.rules.specs.declared.Parameter.{Parameter}
+use Rattle.rules.specs.declared.Parameter.the-variants.{InT, InU, InV}
+use Rattle.rules.specs.Search.{Box, Depths, deeper}
+use Rattle.kernel.specs.Ranges.{Shallow, InGrid}
+use Rattle.boxes.specs.Boxes.{Fits}
+use Rattle.queue.specs.Level.{OfLevel, Splits}
+
+pub fits-grid : (k : Depths) (b : Box) → Shallow k → InGrid k b → Fits b
+fits-grid k b s g = record {
+  t = lt-of-lt-of-le (g .t) (pow-mono (s .t));
+  u = lt-of-lt-of-le (g .u) (pow-mono (s .u));
+  v = lt-of-lt-of-le (g .v) (pow-mono (s .v));
+}
+
+double : (k : ℕ) → 2 ^ (k + 1) ≡ 2 * 2 ^ k
+double k = rw (add-one, pow-suc) (omega arith)
+
+-- one bit more
+more-low : (i k : ℕ) → i < 2 ^ k → 2 * i < 2 ^ (k + 1)
+more-low i k h = omega (arith, double k)
+
+more-high : (i k : ℕ) → i < 2 ^ k → 2 * i + 1 < 2 ^ (k + 1)
+more-high i k h = omega (arith, double k)
+
+pub splits-grid : (p : Parameter) (k : Depths) (w : ℕ) → OfLevel k w → Splits (deeper p k) p w
+splits-grid InT k w g = (record { t = more-low _ _ (g .t); u = g .u; v = g .v }, record { t = more-high _ _ (g .t); u = g .u; v = g .v })
+splits-grid InU k w g = (record { t = g .t; u = more-low _ _ (g .u); v = g .v }, record { t = g .t; u = more-high _ _ (g .u); v = g .v })
+splits-grid InV k w g = (record { t = g .t; u = g .u; v = more-low _ _ (g .v) }, record { t = g .t; u = g .u; v = more-high _ _ (g .v) })

@@ -1,0 +1,135 @@
+// The lent queue of H and H words: the present level stands from 0 on, the next one is written from H on.
+ghost use mathlib.Core.Path.{_≡_};
+ghost use mathlib.Core.List.{_++_};
+ghost use Prim.Native.Nat.{_+_, _≤_};
+ghost use lib.ListN.{length, take, drop, replicate};
+ghost use Rattle.rules.specs.Search.{stored, lowHalf, highHalf, inside};
+ghost use Rattle.kernel.specs.Kernel.{asked};
+ghost use Rattle.boxes.specs.Boxes.{boxOf};
+ghost use Rattle.queue.specs.Level.{Halved, PickIs, Picks, Picked, Grows, Grown};
+use boxes::high_half;
+use boxes::low_half;
+use boxes::pack;
+use boxes::unpack;
+use kernel::Pair;
+use rules::Parameter;
+use rules::Three;
+
+// Every word is zero afterwards.
+pub fn clear(words: &mut [u64])
+    ensures { λ _. ⌜ now (words .exit) ≡ replicate (length (now (words .entry))) 0 ⌝ }
+{
+    let mut i = 0;
+    while i < words.len() {
+        words[i] = 0;
+        i += 1;
+    }
+}
+
+// The n words from h on are copied to the front.
+pub fn copy_down(queue: &mut [u64], h: usize, n: usize)
+    requires { ⌜ (n ≤ h) × (h + n ≤ length (now queue)) ⌝ }
+    ensures { λ _. ⌜ now (queue .exit) ≡ take n (drop h (now (queue .entry))) ++ drop n (now (queue .entry)) ⌝ }
+{
+    let mut i = 0;
+    while i < n {
+        queue[i] = queue[h + i];
+        i += 1;
+    }
+}
+
+// A half as a word, whether it stays, and the places of the low and the high half after it.
+pub struct Pick {
+    pub word: u64,
+    pub stays: bool,
+    pub i: usize,
+    pub j: usize,
+}
+
+// The low half of the ith box; k are the depths after the split.
+fn low_of(p: Pair, k: Three, split: Parameter, word: u64, i: usize, j: usize) -> Pick
+    requires { ⌜ Halved k split word i j ⌝ }
+    ensures { λ r. ⌜ PickIs (asked p) k (lowHalf split (boxOf word)) (i + 1) j r ⌝ }
+{
+    let b = low_half(split, unpack(word));
+    Pick {
+        word: pack(b),
+        stays: gap::inside(p, k, b),
+        i: i + 1,
+        j,
+    }
+}
+
+// The high half of the jth box.
+fn high_of(p: Pair, k: Three, split: Parameter, word: u64, i: usize, j: usize) -> Pick
+    requires { ⌜ Halved k split word i j ⌝ }
+    ensures { λ r. ⌜ PickIs (asked p) k (highHalf split (boxOf word)) i (j + 1) r ⌝ }
+{
+    let b = high_half(split, unpack(word));
+    Pick {
+        word: pack(b),
+        stays: gap::inside(p, k, b),
+        i,
+        j: j + 1,
+    }
+}
+
+// The lesser of the ith box's low half and the jth box's high half; one that does not stay is passed by itself.
+fn next_half(
+    p: Pair,
+    k: Three,
+    split: Parameter,
+    queue: &[u64],
+    n: usize,
+    i: usize,
+    j: usize,
+) -> Pick
+    requires { ⌜ Picks k split (now queue) n i j ⌝ }
+    ensures { λ r. ⌜ Picked (asked p) k split (take n (now (queue .entry))) i j r ⌝ }
+{
+    if i == n {
+        return high_of(p, k, split, queue[j], i, j);
+    }
+    let low = low_of(p, k, split, queue[i], i, j);
+    if !low.stays {
+        return low;
+    }
+    if j == n {
+        return low;
+    }
+    let high = high_of(p, k, split, queue[j], i, j);
+    if !high.stays {
+        return high;
+    }
+    if low.word <= high.word { low } else { high }
+}
+
+// The next level has no room, or so many boxes.
+pub enum Next {
+    Room,
+    Level(usize),
+}
+
+// Writes the next level of the n survivors at the front from h on; k are the depths after the split.
+pub fn grow(p: Pair, k: Three, split: Parameter, queue: &mut [u64], n: usize) -> Next
+    requires { ⌜ Grows p k split (now queue) n ⌝ }
+    ensures { λ r. ⌜ Grown p k split n (now (queue .entry)) (now (queue .exit)) r ⌝ }
+{
+    let h = p.room;
+    let mut i = 0;
+    let mut j = 0;
+    let mut m = 0;
+    while i + j < n + n {
+        let next = next_half(p, k, split, queue, n, i, j);
+        i = next.i;
+        j = next.j;
+        if next.stays {
+            if m == h {
+                return Next::Room;
+            }
+            queue[h + m] = next.word;
+            m += 1;
+        }
+    }
+    Next::Level(m)
+}
