@@ -2,3 +2,4 @@
 pub mod Put
 pub mod Digits
 pub mod Words
+pub mod Rows

@@ -7,13 +7,15 @@
 --     roomier            another bound on the place behind
 -- Assumes nothing.
 use Prim.Native.Nat.{ℕ, _+_, _≤_}
-use mathlib.Core.Path.{_≡_, sym, ap, _∙_}
+use mathlib.Core.Bool.{Bool, true, false}
+use mathlib.Core.Path.{_≡_, refl, sym, ap, _∙_}
 use mathlib.Core.List.{List, [], _∷_, _++_, append-assoc, append-nil}
 use native.Mathlib.Omega.{arith}
 use native.Mathlib.Nat.{add-zero}
 use lib.ListN.{length, set, take, drop, length-append, length-drop, take-append-drop}
 use lib.Seq.{paste, take-length, sets-eq, length-take-le, take-at, drop-append-add, drop-drop}
-use Rattle.text.specs.Writers.{put, Wrote}
+use Rattle.text.specs.Writers.{put, Wrote, Printed, writtenIf, bufferIf}
+use Rattle.text.specs.declared.Written.the-variants.{Text, Nothing}
 
 pub put-nil : (s : List ℕ) (at : ℕ) → put s at [] ≡ s
 unfolding put
@@ -64,3 +66,14 @@ put-paste s at xs = rw (take-length xs)
 
 pub roomier : {j k at next : ℕ} {s s′ vs : List ℕ} → Wrote j s at vs s′ next → next ≤ at + k → Wrote k s at vs s′ next
 roomier w h = record { bytes = w .bytes; behind = w .behind; few = h }
+
+-- a text that had no room, and one that was written
+pub printed-not : {room : Bool} {text s : List ℕ} → room ≡ false → Printed room text s s Nothing
+unfolding writtenIf bufferIf
+printed-not e = rw e (record { said = refl; bytes = refl })
+
+pub printed : {room : Bool} {k next : ℕ} {text s s′ : List ℕ} → room ≡ true → Wrote k s 0 text s′ next → Printed room text s s′ (Text next)
+unfolding writtenIf bufferIf
+printed {next = next} {text = text} e w =
+    let n : next ≡ length text = omega (arith, w .behind) in
+    rw e (record { said = ap Text n; bytes = w .bytes })

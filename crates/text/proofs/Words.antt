@@ -1,11 +1,12 @@
--- Laws of the words: what a number that is no answer's is told as.
+-- Laws of the words: what a number that is no answer's is told as, and which numbers stand behind a word.
 -- Assumes nothing.
 use Prim.Native.Nat.{ℕ, zero, suc, _≤_, _<_}
 use mathlib.Core.Path.{_≡_, refl, sym, ap, _∙_}
-use mathlib.Core.List.{List}
+use mathlib.Core.List.{List, _++_}
 use native.Mathlib.Omega.{arith}
-use borrow.Author.Tests.{le-leb, lt-leb}
-use Rattle.text.specs.Text.{ascii, kindOf, named}
+use borrow.Author.Tests.{le-leb, lt-leb, eq-eqb, ne-eqb}
+use Rattle.text.specs.Text.{ascii, field, kindOf, named, values}
+use Rattle.rules.specs.declared.Told.{Told}
 
 pub kind-low : (w : ℕ) → w ≤ 5 → w ≡ kindOf w
 unfolding kindOf
@@ -24,3 +25,13 @@ pub named-other : (w : ℕ) → (w ≡ 1 → ⊥) → (w ≡ 2 → ⊥) → (w �
 unfolding named kindOf
 named-other zero n1 n2 n3 n4 n5 = refl
 named-other (suc w) n1 n2 n3 n4 n5 = named-high (suc w) (omega arith)
+
+-- the numbers behind a refusal's name, and behind any other
+module _ (a : Told) where
+  pub values-refused : kindOf (a .word) ≡ 0 → field (a .number) ≡ values a
+  unfolding values
+  values-refused h = rw (eq-eqb (kindOf (a .word)) 0 h)
+
+  pub values-answered : (kindOf (a .word) ≡ 0 → ⊥) → field (a .t) ++ field (a .u) ++ field (a .v) ++ field (a .excess) ++ field (a .count) ≡ values a
+  unfolding values
+  values-answered h = rw (ne-eqb (kindOf (a .word)) 0 h)

@@ -5,7 +5,7 @@ use mathlib.Core.List.{List, [], _∷_, _++_}
 use Rattle.rules.specs.Answers.{told}
 use Rattle.rules.specs.declared.Answer.the-variants.{Met, Clear, Spent, Refused}
 use Rattle.text.specs.declared.Row.{Row}
-use Rattle.text.specs.Text.{ascii, digits, decimal, field, kindOf, named, values, line, lines, tally, tallied, total, fileText, refusedText, rowOf, rows}
+use Rattle.text.specs.Text.{ascii, digits, decimal, field, kindOf, named, values, line, lines, tally, tallied, tallies, total, fileText, refusedText, rowOf, rows}
 
 -- "records with ids 1 to 3, the first case, the CLEAR of count 10, and budget 4"
 abbrev pub example : List ℕ
@@ -27,7 +27,7 @@ example-is-answers = refl
 pub example-text :
     fileText (rows 3 example)
     ≡ ascii "1 MET 262144 0 0 500 5\n2 CLEAR 0 0 0 0 10\n3 SPENT 0 0 0 1000 4\nTOTAL 3 MET 1 CLEAR 1 SPENT 1 ROOM 0 FLOOR 0 REFUSED 0\n"
-unfolding digits decimal field kindOf named values line lines tally tallied total fileText rowOf rows
+unfolding digits decimal field kindOf named values line lines tally tallied tallies total fileText rowOf rows
 example-text = refl
 
 -- "for a refused record: id, REFUSED, number", and the largest number of 32 bits

@@ -66,10 +66,13 @@ tally word (r ∷ rs) = cond (eqb (kindOf (r .answer .word)) word) 1 0 + tally w
 unfoldable pub tallied : ℕ → List Row → List ℕ
 tallied word rs = named word ++ field (tally word rs)
 
--- "After TOTAL stands the number of records", then the tallies in the order of the example
+-- the six tallies in the order of the example
+unfoldable pub tallies : List Row → List ℕ
+tallies rs = tallied 1 rs ++ tallied 2 rs ++ tallied 3 rs ++ tallied 4 rs ++ tallied 5 rs ++ tallied 0 rs
+
+-- "After TOTAL stands the number of records", then the tallies
 unfoldable pub total : List Row → List ℕ
-total rs =
-    ascii "TOTAL" ++ field (length rs) ++ tallied 1 rs ++ tallied 2 rs ++ tallied 3 rs ++ tallied 4 rs ++ tallied 5 rs ++ tallied 0 rs ++ ascii "\n"
+total rs = ascii "TOTAL" ++ field (length rs) ++ tallies rs ++ ascii "\n"
 
 -- "a line a record .. Then one TOTAL line."
 unfoldable pub fileText : List Row → List ℕ

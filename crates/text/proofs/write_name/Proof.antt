@@ -2,6 +2,7 @@
 use native.Mathlib.Omega.{arith}
 use mathlib.Core.Path.{_≡_}
 use Rattle.text.specs.Text.{named, kindOf}
+use Rattle.text.proofs.Put.{roomier}
 use Rattle.text.proofs.Words.{named-other}
 use borrow.Author.Needs.{needs}
 use Rattle.text.proofs.write_name.Statement.{statement}
@@ -67,7 +68,7 @@ returns : tie.Need-returns
 unfolding named kindOf
 returns c =
     let e : c .before .before .before .before .before .before .before .args .word ≡ 1 = omega arith in
-    rw e (c .before .before .write-text .ensures)
+    rw e (roomier (c .before .before .write-text .ensures) (omega (arith, c .before .before .write-text .ensures .few)))
 
 -- src/lib.rt:83:1
 same-length-2 : tie.Need-same-length-2
@@ -78,7 +79,7 @@ returns-2 : tie.Need-returns-2
 unfolding named kindOf
 returns-2 c =
     let e : c .before .before .before .before .before .before .before .args .word ≡ 2 = omega arith in
-    rw e (c .before .before .write-text2 .ensures)
+    rw e (roomier (c .before .before .write-text2 .ensures) (omega (arith, c .before .before .write-text2 .ensures .few)))
 
 -- src/lib.rt:83:1
 same-length-3 : tie.Need-same-length-3
@@ -89,7 +90,7 @@ returns-3 : tie.Need-returns-3
 unfolding named kindOf
 returns-3 c =
     let e : c .before .before .before .before .before .before .before .args .word ≡ 3 = omega arith in
-    rw e (c .before .before .write-text3 .ensures)
+    rw e (roomier (c .before .before .write-text3 .ensures) (omega (arith, c .before .before .write-text3 .ensures .few)))
 
 -- src/lib.rt:83:1
 same-length-4 : tie.Need-same-length-4
@@ -100,7 +101,7 @@ returns-4 : tie.Need-returns-4
 unfolding named kindOf
 returns-4 c =
     let e : c .before .before .before .before .before .before .before .args .word ≡ 4 = omega arith in
-    rw e (c .before .before .write-text4 .ensures)
+    rw e (roomier (c .before .before .write-text4 .ensures) (omega (arith, c .before .before .write-text4 .ensures .few)))
 
 -- src/lib.rt:83:1
 same-length-5 : tie.Need-same-length-5
@@ -111,7 +112,7 @@ returns-5 : tie.Need-returns-5
 unfolding named kindOf
 returns-5 c =
     let e : c .before .before .before .before .before .before .before .args .word ≡ 5 = omega arith in
-    rw e (c .before .before .write-text5 .ensures)
+    rw e (roomier (c .before .before .write-text5 .ensures) (omega (arith, c .before .before .write-text5 .ensures .few)))
 
 -- src/lib.rt:83:1
 same-length-6 : tie.Need-same-length-6
@@ -121,7 +122,7 @@ same-length-6 c = search needs
 returns-6 : tie.Need-returns-6
 returns-6 c =
     let w = c .before .before .before .before .before .before .before .args .word in
-    rw (← named-other w (λ e. omega arith) (λ e. omega arith) (λ e. omega arith) (λ e. omega arith) (λ e. omega arith)) (c .before .before .write-text6 .ensures)
+    rw (← named-other w (λ e. omega arith) (λ e. omega arith) (λ e. omega arith) (λ e. omega arith) (λ e. omega arith)) (roomier (c .before .before .write-text6 .ensures) (omega (arith, c .before .before .write-text6 .ensures .few)))
 
 pub write-name-spec : {M : Type 1} → statement M
 write-name-spec =

@@ -1,0 +1,42 @@
+-- `text::write_tally` meets its contract. Assumes nothing.
+use native.Mathlib.Omega.{arith}
+use Rattle.text.specs.Text.{tallied}
+use Rattle.text.proofs.Put.{then}
+use borrow.Author.Needs.{needs}
+use Rattle.text.proofs.write_tally.Statement.{statement}
+use Rattle.text.proofs.write_tally.Tie as tie
+use Rattle.text.proofs.write_tally.Reads as reads
+use Rattle.text.proofs.write_tally.Lts as lts
+use Rattle.text.proofs.count_word.Reads as count-word-reads
+use Rattle.text.proofs.write_field.Reads as write-field-reads
+use Rattle.text.proofs.write_name.Reads as write-name-reads
+
+-- src/lib.rt:201:9
+write-name-requires : tie.Need-write-name-requires
+write-name-requires c κs = search needs
+
+-- src/lib.rt:202:33
+count-word-requires : tie.Need-count-word-requires
+count-word-requires c κs = search needs
+
+-- src/lib.rt:202:5
+write-field-requires : tie.Need-write-field-requires
+write-field-requires c κs = search needs
+
+-- src/lib.rt:197:1
+same-length : tie.Need-same-length
+same-length c = search needs
+
+-- src/lib.rt:197:1
+returns : tie.Need-returns
+unfolding tallied
+returns c =
+    let f = c .before .before in
+    let n = f .before in
+    let w = n .before .before .before .before in
+    rw (← n .count-word .ensures) (then (w .write-name .ensures) (f .write-field .ensures) (omega arith))
+
+pub write-tally-spec : {M : Type 1} → statement M
+write-tally-spec =
+    tie.close
+    (tie.spec write-name-requires count-word-requires write-field-requires same-length returns)
