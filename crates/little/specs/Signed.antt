@@ -13,7 +13,7 @@ use lib.IntN.{ℤ, pos, negsuc, natAbs}
 use lib.Signed.{ltZ, nonNeg}
 use mir.Syntax.{w32}
 use mir.Val.{SFits, Fits, toZ, ofZ, sel}
-use mir.Facts.{toZ-ofZ, ofZ-toZ, fits-ofZ, toZ-pos}
+use mir.Facts.{toZ-ofZ, ofZ-toZ, fits-ofZ, sfits-toZ, toZ-pos}
 use native.Mathlib.Numerals.{add-one}
 use borrow.Author.Tests.{ltb-true, lt-ltb}
 use Rattle.rules.specs.QueryFile.{signed, bits}
@@ -33,6 +33,9 @@ bits-is (negsuc n) = ap (λ (m : ℕ). 4294967296 - m) (add-one n)
 
 pub bits-below : (z : ℤ) → SFits w32 z → bits z < 4294967296
 bits-below z f = rw (bits-is z) (fits-ofZ f .fits)
+
+pub signed-fits : (n : ℕ) → n < 4294967296 → SFits w32 (signed n)
+signed-fits n h = rw (signed-is n h) (sfits-toZ {w = w32} (record { fits = h }))
 
 pub signed-bits : (z : ℤ) → SFits w32 z → signed (bits z) ≡ z
 signed-bits z f = signed-is (bits z) (bits-below z f) ∙ ap (toZ w32) (bits-is z) ∙ toZ-ofZ f

@@ -1,22 +1,23 @@
 -- Whole files.
 --     trailer-opens            bytes with a trailer of a form behind them open by it
 --     file-opens               free bytes, a list of records and a trailer open to exactly so many records, from the first on
+--     written-file             records and a trailer put one behind another are such a file
 --     file-fetch, file-past    record k is the k-th of the list, beside its own refusal; past the last there is none
 -- Assumes nothing.
 use Prim.Native.Nat.{ℕ, zero, suc, _+_, _-_, _*_, _≤_, _<_}
 use mathlib.Core.Path.{_≡_, refl, sym, ap, _∙_}
 use mathlib.Core.Bool.{true}
-use mathlib.Core.List.{List, [], _∷_, _++_, append-assoc}
+use mathlib.Core.List.{List, [], _∷_, _++_, append-assoc, append-nil}
 use native.Mathlib.Nat.{add-zero}
 use native.Mathlib.Omega.{arith}
 use borrow.Author.Tests.{eq-eqb, le-ltb}
-use lib.ListN.{length, getD, drop, length-append}
+use lib.ListN.{length, getD, take, drop, length-append, drop-of-length-le}
 use lib.Seq.{drop-at, drop-drop, drop-append-add, drop-append-seam}
 use Rattle.rules.specs.declared.Record.{Record}
 use Rattle.rules.specs.declared.Form.{Form}
 use Rattle.rules.specs.declared.Opened.the-variants.{Records, Refused}
 use Rattle.rules.specs.Refusals.{first, recordRefusal}
-use Rattle.rules.specs.QueryFile.{word, wordBytes, stands, recordAt, recordBytes, queryForm, editionBytes, trailerBytes, recordsBytes, fileBytes, openRefusal, openUnless, opened, recordCount, noRecord, fetchUnless, fetched}
+use Rattle.rules.specs.QueryFile.{word, wordBytes, stands, recordAt, recordBytes, queryForm, editionBytes, trailerBytes, recordsBytes, fileBytes, openRefusal, openUnless, opened, recordCount, noRecord, fetchUnless, fetched, put}
 use Rattle.little.specs.Word.{length-word, word-at}
 use Rattle.little.specs.Stands.{stands-there}
 use Rattle.queries.specs.Opening.{opened-records, reach-index, reach-good}
@@ -136,3 +137,17 @@ module _ (free : List ℕ) (rs : List Record) (all : AllHeld rs) (few : length r
       let s = fileBytes free rs in
       let o = opened-records queryForm s (length free) (length rs) file-opens in
       rw (reach-index s k (o .none) (omega (arith, o .counts)))
+
+-- records and a trailer put one behind another up to a buffer's end are a file of them
+pub written-file : (s : List ℕ) (at : ℕ) (rs : List Record) → AllHeld rs → at + 116 * length rs + 16 ≡ length s
+    → put s at (recordsBytes rs ++ trailerBytes queryForm (length rs)) ≡ fileBytes (take at s) rs
+unfolding put fileBytes
+written-file s at rs all e =
+    let bytes = recordsBytes rs ++ trailerBytes queryForm (length rs) in
+    let l : length bytes ≡ 116 * length rs + 16 =
+    length-append (recordsBytes rs) (trailerBytes queryForm (length rs)) ∙ omega (arith, length-records rs all, length-trailer queryForm (length rs) refl) in
+    let past : length s ≤ at + length bytes = omega arith in
+    let end : drop (at + length bytes) s ≡ [] = drop-of-length-le s past in
+    ap (λ (x : List ℕ). take at s ++ bytes ++ x) end
+    ∙ append-nil (take at s ++ bytes)
+    ∙ sym (append-assoc (take at s) (recordsBytes rs) (trailerBytes queryForm (length rs)))

@@ -4,3 +4,4 @@ pub mod Opening
 pub mod Writing
 pub mod RoundTrip
 pub mod Files
+pub mod Same

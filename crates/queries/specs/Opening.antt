@@ -32,6 +32,8 @@ both-false false b e = (refl, e)
 
 pub record Opens (form : Form) (s : List ℕ) : Type 0 where
   pub long : 16 ≤ length s
+  pub mark : stands s (trailerPlace s) (form .mark) ≡ true
+  pub edition : stands s (trailerPlace s + 4) (editionBytes form) ≡ true
   pub few : recordCount s ≤ 4096
   pub whole : backPointer s ≡ form .size * recordCount s
   pub room : backPointer s ≤ trailerPlace s
@@ -49,6 +51,8 @@ opens form s e =
     let h = both-false differs (ltb (trailerPlace s) (backPointer s)) (h12 .0) in
     record {
       long = ltb-false (length s) 16 (h8 .0);
+      mark = not-false _ (h9 .0);
+      edition = not-false _ (h10 .0);
       few = ltb-false 4096 (recordCount s) (h11 .0);
       whole = eqb-true (backPointer s) (form .size * recordCount s) (not-false _ (h .0));
       room = ltb-false (trailerPlace s) (backPointer s) (h .1);

@@ -1,6 +1,6 @@
 -- A record written and read back is that record; the bytes of a record read and written back are those bytes.
 --     Held            what every `Record` of a program is: each field fits its type
---     held            so is a record that is accepted, with an id and 24 coordinates of 32 bits
+--     held            so is a record that is accepted, with an id of 32 bits and 24 coordinates; `read-held` one that stands in bytes
 --     read-back       what was put is read as the record; `written-back` of a writer's buffer
 --     write-back      to put the record that stands at a place there again changes nothing
 --     same-record     no two records have the same bytes
@@ -21,7 +21,7 @@ use Rattle.rules.specs.QueryFile.{word, wordBytes, signed, bits, coordinatesAt,
 use Rattle.refusals.specs.Accepted.{Accepted}
 use Rattle.little.specs.Put.{drop-put, put-same}
 use Rattle.little.specs.Word.{Bytes, word-drop, word-back, word-at, word-lt, word-same, digits}
-use Rattle.little.specs.Signed.{signed-bits, bits-signed, bits-below}
+use Rattle.little.specs.Signed.{signed-bits, signed-fits, bits-signed, bits-below}
 use Rattle.queries.specs.Coordinates.{length-bytes}
 use Rattle.queries.specs.Writing.{write-room}
 
@@ -142,7 +142,29 @@ written-back s at r h e = rw e (read-back s at r h (write-room s at r e .1))
 pub same-record : (r r′ : Record) → Held r → Held r′ → recordBytes r ≡ recordBytes r′ → r ≡ r′
 same-record r r′ h h′ e = sym (front r [] h) ∙ ap (λ (l : List ℕ). recordAt (l ++ []) 0) e ∙ front r′ [] h′
 
--- ---- the bytes of a record
+-- ---- a record that stands in bytes
+each-read : (n : ℕ) (s : List ℕ) (at : ℕ) → Bytes s → (length (coordinatesAt s at n) ≡ n) × Each (coordinatesAt s at n)
+unfolding coordinatesAt
+each-read zero s at b = (refl, tt)
+each-read (suc n) s at b = let h = each-read n s (at + 4) b in (ap suc (h .0), (signed-fits (word s at) (word-lt s b at), h .1))
+
+pub read-held : (s : List ℕ) (at : ℕ) → Bytes s → Held (recordAt s at)
+unfolding recordAt
+read-held s at b =
+    let h = each-read 24 s (at + 20) b in
+    record {
+      kind = b at;
+      flags = b (at + 1);
+      byte2 = b (at + 2);
+      byte3 = b (at + 3);
+      id = word-lt s b (at + 4);
+      separation = word-lt s b (at + 8);
+      tolerance = word-lt s b (at + 12);
+      budget = word-lt s b (at + 16);
+      count = h .0;
+      points = h .1;
+    }
+
 first-word : (s : List ℕ) → Bytes s → 4 ≤ length s → wordBytes (getD s 0 0 + 256 * getD s 1 0 + 65536 * getD s 2 0 + 16777216 * getD s 3 0) ≡ take 4 s
 unfolding word
 first-word s b h = word-same s b 0 h

@@ -1,5 +1,6 @@
 -- Laws of the writers.
 --     refused-write, done-write    a writer's answer and the bytes after it, by its refusal
+--     written-once                 and there is no other
 --     write-is, write-room         the refusal of a record, as the code makes it, and what none says
 --     trailer-room                 what no refusal of a trailer says
 -- Assumes nothing.
@@ -14,6 +15,7 @@ use lib.Dec.{ltb, eqb, eqb·suc-zero}
 use lib.ListN.{length, drop}
 use Rattle.rules.specs.declared.Record.{Record}
 use Rattle.rules.specs.declared.Form.{Form}
+use Rattle.rules.specs.declared.Wrote.{Wrote}
 use Rattle.rules.specs.declared.Wrote.the-variants.{Done, Refused}
 use Rattle.rules.specs.Refusals.{Case, first, recordCases, recordRefusal}
 use Rattle.rules.specs.QueryFile.{put, space, writeRefusal, trailerRefusal, wroteUnless, putUnless, Written}
@@ -29,6 +31,10 @@ module _ (n : ℕ) (s : List ℕ) (at : ℕ) (bytes : List ℕ) where
   pub done-write : (k : ℕ) (after : List ℕ) → k ≡ n → k ≡ 0 → after ≡ put s at bytes → Written n s at bytes after Done
   unfolding wroteUnless putUnless
   done-write k after e z p = let none : n ≡ 0 = sym e ∙ z in record { says = rw none; leaves = rw none p }
+
+  -- no second answer and no second buffer fits
+  pub written-once : (x y : List ℕ) (v w : Wrote) → Written n s at bytes x v → Written n s at bytes y w → (x ≡ y) × (v ≡ w)
+  written-once x y v w p q = (p .leaves ∙ sym (q .leaves), p .says ∙ sym (q .says))
 
 -- ---- a record
 else-is : (k m : ℕ) → cond (not (eqb k 0)) k m ≡ orElse k m

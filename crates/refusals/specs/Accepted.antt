@@ -4,7 +4,7 @@
 -- Assumes nothing.
 use Prim.Native.Nat.{ℕ, suc, _≤_}
 use mathlib.Core.Path.{_≡_, refl}
-use mathlib.Core.Bool.{Bool, true, false, not, _&&_, _||_}
+use mathlib.Core.Bool.{Bool, true, false, not, _&&_, _||_, and-eq-true-iff}
 use mathlib.Core.List.{List, [], _∷_, _++_}
 use mathlib.Core.Logic.{_⊎_, inl, inr, ⊎-map}
 use native.Mathlib.Omega.{arith}
@@ -16,7 +16,7 @@ use Rattle.rules.specs.declared.Record.{Record}
 use Rattle.rules.specs.Numbers.{between, isCoordinate, isSeparation, isTolerance, isBudget, isQueue}
 use Rattle.rules.specs.Refusals.{Case, first, every, recordCases, recordRefusal, searchRefusal}
 use Rattle.refusals.specs.Cases.{not-due}
-use Rattle.refusals.specs.Every.{both, every-at}
+use Rattle.refusals.specs.Every.{every-at}
 
 pub record Accepted (r : Record) : Type 0 where
   pub kind : (r .kind ≡ 1) ⊎ (r .kind ≡ 2)
@@ -41,7 +41,7 @@ either false b e = inr e
 
 in-range : (low high n : ℕ) → between low high n ≡ true → (low ≤ n) × (n ≤ high)
 in-range low high n e =
-    let h = both (leb low n) (leb n high) e in
+    let h = and-eq-true-iff (leb low n) (leb n high) .0 e in
     (leb-true low n (h .0), leb-true n high (h .1))
 
 -- a row that is due where `ok` fails
@@ -57,8 +57,8 @@ accepted-before r more e =
     let four = peel 3 (isSeparation (r .separation)) (drop 4 cs) (three .1) in
     let five = peel 4 (isTolerance (r .tolerance)) (drop 5 cs) (four .1) in
     let six = peel 5 (isBudget (r .budget)) more (five .1) in
-    let flags = both (leb (r .flags) 1 && eqb (r .byte2) 0) (eqb (r .byte3) 0) (two .0) in
-    let flags2 = both (leb (r .flags) 1) (eqb (r .byte2) 0) (flags .0) in (
+    let flags = and-eq-true-iff (leb (r .flags) 1 && eqb (r .byte2) 0) (eqb (r .byte3) 0) .0 (two .0) in
+    let flags2 = and-eq-true-iff (leb (r .flags) 1) (eqb (r .byte2) 0) .0 (flags .0) in (
       record {
         kind = ⊎-map (eqb-true (r .kind) 1) (eqb-true (r .kind) 2) (either (eqb (r .kind) 1) (eqb (r .kind) 2) (one .0));
         flags = leb-true (r .flags) 1 (flags2 .0);

@@ -2,27 +2,13 @@
 -- Assumes nothing.
 use Prim.Native.Nat.{ℕ, zero, suc, _+_, _<_, _≤_}
 use mathlib.Core.Path.{_≡_, refl, sym, ap, _∙_}
-use mathlib.Core.Bool.{Bool, true, false, _&&_}
+use mathlib.Core.Bool.{Bool, true, _&&_, and-true, and-assoc, and-eq-true-iff}
 use mathlib.Core.List.{List, [], _∷_}
 use native.Mathlib.Numerals.{add-one}
 use lib.IntN.{ℤ, pos}
 use lib.ListN.{length, getD, drop, drop-of-length-le}
 use lib.Seq.{drop-cons}
 use Rattle.rules.specs.Refusals.{every}
-
-and-assoc : (a b c : Bool) → (a && (b && c)) ≡ (a && b && c)
-and-assoc true b c = refl
-and-assoc false b c = refl
-
-pub and-true : (b : Bool) → (b && true) ≡ b
-and-true true = refl
-and-true false = refl
-
--- the two parts of a test that holds
-pub both : (a b : Bool) → (a && b) ≡ true → (a ≡ true) × (b ≡ true)
-both true b e = (refl, e)
-both false true e = (e, refl)
-both false false e = (e, e)
 
 module _ (f : ℤ → Bool) (xs : List ℤ) where
   -- what was found so far and the test of what is left, with the next taken in
@@ -32,7 +18,7 @@ module _ (f : ℤ → Bool) (xs : List ℤ) where
       ap (λ (l : List ℤ). so-far && every f l) (drop-cons xs i (pos 0) h)
       ∙ ap (λ (n : ℕ). so-far && (f (getD xs i (pos 0)) && every f (drop n xs))) (sym (add-one i))
       ∙ ap (λ (b : Bool). so-far && (b && every f (drop (i + 1) xs))) (sym (e ∙ ap f ez))
-      ∙ and-assoc so-far now (every f (drop (i + 1) xs))
+      ∙ sym (and-assoc so-far now (every f (drop (i + 1) xs)))
 
   pub every-end : (so-far : Bool) (i : ℕ) → length xs ≤ i → (so-far && every f (drop i xs)) ≡ so-far
   unfolding every
@@ -42,5 +28,5 @@ module _ (f : ℤ → Bool) (xs : List ℤ) where
 pub every-at : (f : ℤ → Bool) (xs : List ℤ) → every f xs ≡ true → f (pos 0) ≡ true → (i : ℕ) → f (getD xs i (pos 0)) ≡ true
 unfolding every
 every-at f [] e z i = z
-every-at f (x ∷ xs) e z zero = both (f x) (every f xs) e .0
-every-at f (x ∷ xs) e z (suc i) = every-at f xs (both (f x) (every f xs) e .1) z i
+every-at f (x ∷ xs) e z zero = and-eq-true-iff (f x) (every f xs) .0 e .0
+every-at f (x ∷ xs) e z (suc i) = every-at f xs (and-eq-true-iff (f x) (every f xs) .0 e .1) z i

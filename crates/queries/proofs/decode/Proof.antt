@@ -1,3 +1,4 @@
+-- `queries::decode` meets its contract: each field is read at its place. Assumes nothing.
 use Rattle.rules.specs.QueryFile.{recordAt}
 use borrow.Author.Needs.{needs}
 use Rattle.queries.proofs.decode.Statement.{statement}

@@ -1,3 +1,4 @@
+-- `queries::encode` meets its contract: six runs, each right behind the one before. Assumes nothing.
 use Prim.Native.Nat.{_+_, _≤_}
 use mathlib.Core.Path.{refl}
 use mathlib.Core.List.{[], _∷_, _++_}

@@ -1,3 +1,4 @@
+-- `queries::read_points` meets its contract: the first i are those that stand there. Assumes nothing.
 use mir.Facts.{toZ-ofZ}
 use borrow.Author.Needs.{sfits-of}
 use Rattle.queries.specs.Coordinates.{read-more, read-end}

@@ -1,3 +1,4 @@
+-- `queries::times` meets its contract: 255 times the largest count fits. Assumes nothing.
 use Prim.Native.Nat.{_*_, _≤_}
 use native.Mathlib.Nat.{mul-le-mul}
 use native.Mathlib.Omega.{arith}

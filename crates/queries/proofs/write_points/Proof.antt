@@ -1,3 +1,4 @@
+-- `queries::write_points` meets its contract: the first i are put. Assumes nothing.
 use mir.Syntax.{w32}
 use mir.Val.{toZ, ofZ}
 use mir.Facts.{toZ-ofZ}

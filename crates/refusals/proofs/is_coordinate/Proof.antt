@@ -1,12 +1,11 @@
 -- `refusals::is_coordinate` meets its contract: two tests of a signed number are one of its size. Assumes nothing.
 use mathlib.Core.Path.{_≡_, refl, sym, ap, _∙_}
-use mathlib.Core.Bool.{true, false, _&&_}
+use mathlib.Core.Bool.{_&&_, and-true}
 use lib.Dec.{leb, leb·suc-suc}
 use lib.IntN.{ℤ, pos, negsuc}
 use lib.Signed.{leZ}
 use mir.Facts.{toZ-ofZ}
 use Rattle.rules.specs.Numbers.{isCoordinate}
-use Rattle.refusals.specs.Every.{and-true}
 use Rattle.refusals.proofs.is_coordinate.Statement.{statement}
 use Rattle.refusals.proofs.is_coordinate.Tie as tie
 
