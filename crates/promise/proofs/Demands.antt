@@ -9,7 +9,8 @@ use Rattle.rules.specs.Answers.{told}
 use Rattle.rules.specs.Gap.{Place, OnBodies}
 use Rattle.rules.specs.Refusals.{searchRefusal}
 use Rattle.rules.specs.Search.{query, run, unless, search}
-use Rattle.promise.specs.Promise.{Clear-is-clear, No-earlier, There, Within-tolerance, Promised, Demand-3, Refused-exactly}
+use Rattle.promise.specs.Promise.{Clear-is-clear, No-earlier, By-a-margin, There, Within-tolerance, Promised, Demand-3, Refused-exactly}
+use Rattle.promise.proofs.Survive.{touch-close}
 use Rattle.promise.proofs.Halves.{Domain}
 use Rattle.promise.proofs.Levels.{Moment, Kept}
 use Rattle.promise.proofs.Accepted.{accepted-kept, run-ended}
@@ -31,7 +32,8 @@ module _ (r : Record) (words : ℕ) where
   moment-promised word t u v excess count not-clear met M =
       record {
         clear-is-clear = λ e. absurd (not-clear e);
-        no-earlier = λ _ m b touch. M .no-earlier m (in-domain b) touch;
+        no-earlier = λ _ m b touch. M .no-earlier m (in-domain b) (touch-close (query r words) m (b .positive) touch);
+        by-a-margin = λ m b close. (λ e. absurd (not-clear e), λ _. M .no-earlier m (in-domain b) close);
         there = λ _. (on-bodies (M .domain), M .size);
         within-tolerance = met;
       }
@@ -40,8 +42,9 @@ module _ (r : Record) (words : ℕ) where
   kept-promised (Met t u v excess n) k = moment-promised 1 t u v excess n (λ e. omega arith) (λ e. k .1) (k .0)
   kept-promised (Clear n) k =
       record {
-        clear-is-clear = λ e m b touch. k m (in-domain b) touch;
+        clear-is-clear = λ e m b touch. k m (in-domain b) (touch-close (query r words) m (b .positive) touch);
         no-earlier = λ t. absurd t;
+        by-a-margin = λ m b close. (λ e. k m (in-domain b) close, λ t. absurd t);
         there = λ t. absurd t;
         within-tolerance = λ e. absurd (omega arith);
       }
@@ -56,6 +59,7 @@ module _ (r : Record) (words : ℕ) where
       record {
         clear-is-clear = λ e. absurd (omega arith);
         no-earlier = λ t. absurd t;
+        by-a-margin = λ m b close. (λ e. absurd (omega arith), λ t. absurd t);
         there = λ t. absurd t;
         within-tolerance = λ e. absurd (omega arith);
       }
@@ -80,6 +84,9 @@ module _ (r : Record) (words : ℕ) (a : Answer) (e : a ≡ search r words) wher
 
   pub no-earlier : No-earlier r (told a)
   no-earlier = answer-promised r words a e .no-earlier
+
+  pub by-a-margin : By-a-margin r (told a)
+  by-a-margin = answer-promised r words a e .by-a-margin
 
   pub there : There r (told a)
   there = answer-promised r words a e .there

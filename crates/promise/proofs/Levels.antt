@@ -17,7 +17,7 @@ use Rattle.rules.specs.Gap.{Axis, Place}
 use Rattle.rules.specs.Search.{Query, Box, Depths, side, low, unit, survives, corner, full, Checked, check, those, split, deeper, halves, inside, ifRoom, afterLevel, levels, origin, run}
 use Rattle.kernel.specs.Ranges.{InGrid}
 use Rattle.promise.proofs.Box.{Between, In, HasKernel}
-use Rattle.promise.proofs.Survive.{Touch, touch-survives}
+use Rattle.promise.proofs.Survive.{Close, close-survives}
 use Rattle.promise.proofs.Lists.{Every, Some, From, Ascending, every-weaken, some-weaken, those-every, those-some, those-ascending}
 use Rattle.promise.proofs.Split.{Shallow, at, split-open, deeper-shallow, sum, deeper-sum}
 use Rattle.promise.proofs.Halves.{Domain, halves-ascending, halves-grid, halves-some}
@@ -27,13 +27,13 @@ use Rattle.promise.proofs.Corner.{low-domain, low-size, near-excess}
 -- ---- what holds of an answer
 module _ (S : Query) where
   pub record Moment (t u v excess : ℕ) : Type 0 where
-    pub no-earlier : (m : Place) → Domain S m → Touch S m → t * m .q ≤ m .a * parts
+    pub no-earlier : (m : Place) → Domain S m → Close S m → t * m .q ≤ m .a * parts
     pub domain : Domain S (record { q = parts; a = t; b = u; c = v })
     pub size : (axis : Axis) → natAbs (S .gap axis parts t u v) ≤ (S .separation axis + excess) * unit
 
   abbrev pub Kept : Answer → Type 0
   Kept (Met t u v excess n) = Moment t u v excess × (excess ≤ S .tolerance)
-  Kept (Clear n) = (m : Place) → Domain S m → Touch S m → ⊥
+  Kept (Clear n) = (m : Place) → Domain S m → Close S m → ⊥
   Kept (Spent t u v excess n) = Moment t u v excess
   Kept (Room t u v excess n) = Moment t u v excess
   Kept (Floor t u v excess n) = Moment t u v excess
@@ -42,12 +42,12 @@ module _ (S : Query) where
   abbrev pub Recorded : Corner → Type 0
   Recorded c = Moment (c .t) (c .u) (c .v) (c .excess)
 
--- ---- what holds of a level: every contact lies in one of its boxes
+-- ---- what holds of a level: every place that is close to contact lies in one of its boxes
 pub record Level (S : Query) (k : Depths) (boxes : List Box) : Type 0 where
   pub shallow : Shallow S k
   pub ascending : Ascending boxes
   pub grid : Every (λ b. InGrid k b × T (inside S k b)) boxes
-  pub cover : (m : Place) → Domain S m → Touch S m → Some (λ b. In k b m) boxes
+  pub cover : (m : Place) → Domain S m → Close S m → Some (λ b. In k b m) boxes
 
 module _ (S : Query) (H : HasKernel S) (deep : S .deepest ≤ 20) where
   -- its survivors will do
@@ -57,7 +57,7 @@ module _ (S : Query) (H : HasKernel S) (deep : S .deepest ≤ 20) where
         shallow = L .shallow;
         ascending = those-ascending (survives S k) boxes (L .ascending);
         grid = every-weaken (λ b h. h .0) (those (survives S k) boxes) (those-every (λ b. InGrid k b × T (inside S k b)) (survives S k) boxes (L .grid));
-        cover = λ m d touch. those-some (λ b. In k b m) (survives S k) boxes (some-weaken (λ b w. (w, touch-survives S H k b m (d .positive) w touch)) boxes (L .cover m d touch));
+        cover = λ m d close. those-some (λ b. In k b m) (survives S k) boxes (some-weaken (λ b w. (w, close-survives S H k b m (d .positive) w close)) boxes (L .cover m d close));
       }
 
   alive : (k : Depths) (boxes : List Box) → Level S k boxes → Every (λ b. T (survives S k b)) (those (survives S k) boxes)
@@ -73,7 +73,7 @@ module _ (S : Query) (H : HasKernel S) (deep : S .deepest ≤ 20) where
   unfolding corner
   first-recorded k b l L =
       record {
-        no-earlier = λ m d touch. not-before k (b .t) m (b ∷ l) (le-refl (b .t), L .ascending .0) (L .cover m d touch);
+        no-earlier = λ m d close. not-before k (b .t) m (b ∷ l) (le-refl (b .t), L .ascending .0) (L .cover m d close);
         domain = low-domain S k b deep (L .shallow) (L .grid .0 .0) (L .grid .0 .1);
         size = low-size S k b;
       }
@@ -85,7 +85,7 @@ module _ (S : Query) (H : HasKernel S) (deep : S .deepest ≤ 20) where
         shallow = deeper-shallow S k (L .shallow) nf (split S k) open';
         ascending = halves-ascending S k (split S k) l (L .ascending);
         grid = halves-grid S k (split S k) l (every-weaken (λ b h. h .0) l (L .grid));
-        cover = λ m d touch. halves-some S k (split S k) l m d (le-trans open' deep) (L .cover m d touch);
+        cover = λ m d close. halves-some S k (split S k) l m d (le-trans open' deep) (L .cover m d close);
       }
     where
       open' : at (split S k) k < S .deepest
@@ -140,7 +140,7 @@ module _ (S : Query) (H : HasKernel S) (deep : S .deepest ≤ 20) where
         shallow = record { t = omega arith; u = omega arith; v = omega arith };
         ascending = (tt, tt);
         grid = ((record { t = omega arith; u = omega arith; v = omega arith }, all-inside (S .isFace)), tt);
-        cover = λ m d touch. inl (record { t = whole (m .q) (m .a) (d .t); u = whole (m .q) (m .b) (d .u); v = whole (m .q) (m .c) (d .v) });
+        cover = λ m d close. inl (record { t = whole (m .q) (m .a) (d .t); u = whole (m .q) (m .b) (d .u); v = whole (m .q) (m .c) (d .v) });
       }
     where
       all-inside : (f : Bool) → T (not f || true)

@@ -1,11 +1,13 @@
 -- A box that holds a contact survives; and how far a survivor's low corner is off.
-use mathlib.Core.Path.{_≡_, sym, ap, _∙_, subst}
+use mathlib.Core.Path.{_≡_, sym, ap, _∙_, subst₂}
 use mathlib.Core.Bool.{Bool, true, false, _&&_}
 use Prim.Native.Nat.{ℕ, _+_, _*_, _≤_, _<_}
-use native.Mathlib.Nat.{mul-comm, mul-assoc, mul-pos}
+use native.Mathlib.Nat.{le-refl, add-mul, mul-comm, mul-assoc, mul-pos}
+use native.Mathlib.Omega.{arith}
 use lib.IntN.{ℤ, pos, negsuc, negℤ, natAbs, _-ℤ_, _*ℤ_}
 use lib.Signed.{_≤ℤ_, leZ}
 use lib.Dec.{T}
+use Rattle.whole.specs.Within.{abs-mul}
 use Rattle.whole.specs.View.{zed, abs-view, minus-view, neg-up, neg-dn}
 use Rattle.rules.specs.Numbers.{parts}
 use Rattle.rules.specs.Gap.{Axis, X, Y, Z, Place}
@@ -41,30 +43,44 @@ module _ (S : Query) (k : Depths) (box : Box) where
   survives-on t Y = and-both (reaches S k box X) (reaches S k box Y) (and-both (reaches S k box X && reaches S k box Y) (reaches S k box Z) t .0) .1
   survives-on t Z = and-both (reaches S k box X && reaches S k box Y) (reaches S k box Z) t .1
 
--- ---- a contact keeps its box
+-- ---- a contact keeps its box, and so does a place less than 1 / unit from contact, corner values being whole
 
--- |F| at most the separation, on each axis
-abbrev pub Touch : Query → Place → Type 0
-Touch S m = (axis : Axis) → natAbs (S .gap axis (m .q) (m .a) (m .b) (m .c)) ≤ S .separation axis * (m .q * m .q)
+module _ (S : Query) (m : Place) where
+  abbrev valueOn : Axis → ℤ
+  valueOn axis = S .gap axis (m .q) (m .a) (m .b) (m .c)
 
-module _ (S : Query) (H : HasKernel S) (k : Depths) (box : Box) (m : Place) (h : 0 < m .q) (w : In k box m) (touch : Touch S m) where
-  regroup : (d q : ℕ) → unit * (d * (q * q)) ≡ q * q * (d * unit)
-  regroup d q = ap (λ (n : ℕ). unit * n) (mul-comm d (q * q)) ∙ mul-comm unit (q * q * d) ∙ mul-assoc (q * q) d unit
+  -- |F| at most the separation, on each axis
+  abbrev pub Touch : Type 0
+  Touch = (axis : Axis) → natAbs (valueOn axis) ≤ S .separation axis * (m .q * m .q)
 
-  touch-bound : (s : Side) (axis : Axis) → s .bounds (overCorners (s .pick) S k box axis) (s .limit (limitOn S axis))
-  touch-bound s axis =
-      s .cancel (m .q * m .q) (mul-pos h h)
-      (s .trans (box-bound S H k box m h w axis s)
-      (subst (s .bounds (pos unit *ℤ S .gap axis (m .q) (m .a) (m .b) (m .c)))
-      (s .times-limit unit (S .separation axis * (m .q * m .q)) ∙ ap (s .limit) (regroup (S .separation axis) (m .q)) ∙ sym (s .times-limit (m .q * m .q) (limitOn S axis)))
-      (s .times unit (s .within (S .gap axis (m .q) (m .a) (m .b) (m .c)) (S .separation axis * (m .q * m .q)) (touch axis)))))
+  -- |F| less than the separation and 1 / unit, on each axis
+  abbrev pub Close : Type 0
+  Close = (axis : Axis) → natAbs (valueOn axis) * unit < (S .separation axis * unit + 1) * (m .q * m .q)
 
-  pub touch-survives : T (survives S k box)
+  pub touch-close : 0 < m .q → Touch → Close
+  touch-close h touch axis =
+      omega (arith, touch axis, mul-pos h h, add-mul (S .separation axis * unit) 1 (m .q * m .q), regroup (S .separation axis) (m .q * m .q))
+    where
+      regroup : (d n : ℕ) → d * unit * n ≡ d * n * unit
+      regroup d n = mul-assoc d unit n ∙ ap (λ (x : ℕ). d * x) (mul-comm unit n) ∙ sym (mul-assoc d n unit)
+
+module _ (S : Query) (H : HasKernel S) (k : Depths) (box : Box) (m : Place) (h : 0 < m .q) (w : In k box m) (close : Close S m) where
+  close-bound : (s : Side) (axis : Axis) → s .bounds (overCorners (s .pick) S k box axis) (s .limit (limitOn S axis))
+  close-bound s axis =
+      s .cancel-limit (m .q * m .q) (limitOn S axis) (natAbs scaled)
+      (subst₂ (λ (x y : ℕ). x < y) (mul-comm (natAbs (valueOn S m axis)) unit ∙ sym (abs-mul (pos unit) (valueOn S m axis))) (mul-comm (limitOn S axis + 1) (m .q * m .q)) (close axis))
+      (overCorners (s .pick) S k box axis)
+      (s .trans (box-bound S H k box m h w axis s) (s .within scaled (natAbs scaled) (le-refl (natAbs scaled))))
+    where
+      scaled : ℤ
+      scaled = pos unit *ℤ valueOn S m axis
+
+  pub close-survives : T (survives S k box)
   unfolding least greatest reaches
-  touch-survives =
+  close-survives =
       survives-intro S k box
       (λ axis. and-intro (leZ (least S k box axis) (pos (limitOn S axis))) (leZ (negℤ (pos (limitOn S axis))) (greatest S k box axis))
-      (touch-bound from-least axis .le) (touch-bound to-greatest axis .le))
+      (close-bound from-least axis .le) (close-bound to-greatest axis .le))
 
 -- ---- a survivor's low corner is off by no more than the separation and the width
 
