@@ -6,3 +6,5 @@ pub mod Bounds
 pub mod Grid
 pub mod Asked
 pub mod Spread
+pub mod Points
+pub mod Prepared

@@ -1,10 +1,12 @@
 // Everything that the search asks about one box of a pair.
 ghost use mathlib.Core.Path.{_≡_};
 ghost use Prim.Native.Nat.{_≤_};
+ghost use Rattle.rules.specs.Refusals.{searchRefusal};
 ghost use Rattle.rules.specs.Search.{survives, inside, corner, near, split};
 ghost use Rattle.kernel.specs.Kernel.{asked};
 ghost use Rattle.kernel.specs.Ranges.{Small, Ranged, Shallow, InGrid};
 ghost use Rattle.gap.specs.Corners.{meets};
+ghost use Rattle.gap.specs.Prepared.{Prepared};
 ghost use Rattle.gap.specs.Steps.{InParts};
 use cell::Cell;
 use cell::cell_of;
@@ -13,8 +15,10 @@ use kernel::Kernel;
 use kernel::Pair;
 use measure::excess;
 use measure::thin;
+use points::kernel_at;
 use rules::Corner;
 use rules::Parameter;
+use rules::Record;
 use rules::Three;
 use span::over_corners;
 use weigh::spread_t;
@@ -25,6 +29,7 @@ use weigh::winner;
 
 mod cell; // cell.rt: a box as its ends in parts
 mod measure; // measure.rt: excess and width
+mod points; // points.rt: the kernel of an axis, from the coordinates of the eight points
 mod span; // span.rt: the least and the greatest of F over a cell's corners, on one axis
 mod weigh; // weigh.rt: what a split in each parameter is worth
 
@@ -112,4 +117,31 @@ pub fn split(p: Pair, k: Three) -> Parameter
     let u = weight(spread_u(p), k.u);
     let v = weight(spread_v(p), k.v);
     winner(t, u, v)
+}
+
+// What the search goes by, of a record that is not refused.
+pub fn prepare(r: Record, words: usize) -> Pair
+    requires { ⌜ searchRefusal r words ≡ 0 ⌝ }
+    ensures { λ p. ⌜ Prepared r words p ⌝ }
+{
+    let points = r.points;
+    let face = r.kind == 1;
+    let flagged = r.flags % 2 == 1;
+    let x = kernel_at(points, 0, false, face);
+    let y = kernel_at(points, 1, flagged, face);
+    let z = kernel_at(points, 2, false, face);
+    let d = r.separation as u64;
+    let tolerance = r.tolerance as u64;
+    Pair {
+        x: x,
+        y: y,
+        z: z,
+        dx: d,
+        dy: d,
+        dz: d,
+        face: face,
+        tolerance: tolerance,
+        budget: r.budget,
+        room: words / 2,
+    }
 }

@@ -1,0 +1,106 @@
+-- The kernel of an axis as the code makes it, from the coordinates as they were read.
+use mathlib.Core.Path.{_≡_, refl, ap, _∙_}
+use mathlib.Core.Bool.{Bool, true, false, cond, _&&_}
+use mathlib.Core.List.{List, [], _∷_}
+use Prim.Native.Nat.{ℕ, zero, suc, _+_, _*_}
+use native.Mathlib.Omega.{arith}
+use lib.IntN.{ℤ, pos, negℤ, _-ℤ_}
+use lib.ListN.{getD}
+use Rattle.whole.specs.Defs.{turned}
+use Rattle.whole.specs.Within.{Within, within-neg, within-sub, within-more}
+use Rattle.rules.specs.Gap.{Axis, X, Y, Z, place, isSecondY, negateFrom}
+use Rattle.kernel.specs.declared.Kernel.{Kernel}
+use Rattle.kernel.specs.Kernel.{coordinate, kernelOf}
+use Rattle.kernel.specs.Ranges.{Small}
+use Rattle.gap.specs.declared.points.Four.{Four}
+use Rattle.gap.specs.declared.span.Moment.{Moment}
+
+-- the coordinates are in their range
+abbrev pub Coordinates : List ℤ → Type 0
+Coordinates points = (i : ℕ) → Within 1_048_576 (getD points i (pos 0))
+
+pub record Near (f : Four) : Type 0 where
+  pub p0 : Within 1_048_576 (f .p0)
+  pub p1 : Within 1_048_576 (f .p1)
+  pub p2 : Within 1_048_576 (f .p2)
+  pub p3 : Within 1_048_576 (f .p3)
+
+abbrev pub fourOf : List ℤ → ℕ → Four
+fourOf points at =
+    record { p0 = getD points at (pos 0); p1 = getD points (at + 3) (pos 0); p2 = getD points (at + 6) (pos 0); p3 = getD points (at + 9) (pos 0) }
+
+abbrev pub sidedFour : Bool → Bool → Four → Four
+sidedFour turn face f = record { p0 = f .p0; p1 = turned (turn && face) (f .p1); p2 = turned turn (f .p2); p3 = turned turn (f .p3) }
+
+abbrev pub endOf : Bool → Four → Moment
+endOf true f = record { a = f .p0 -ℤ f .p1; b = f .p1 -ℤ f .p2; c = f .p1 -ℤ f .p3 }
+endOf false f = record { a = f .p0 -ℤ f .p2; b = f .p1 -ℤ f .p0; c = f .p2 -ℤ f .p3 }
+
+abbrev pub kernelAt : List ℤ → ℕ → Bool → Bool → Kernel
+kernelAt points at turn face = both (endOf face (sidedFour turn face (fourOf points at))) (endOf face (sidedFour turn face (fourOf points (at + 12))))
+  where
+    both : Moment → Moment → Kernel
+    both s e = record { a0 = s .a; b0 = s .b; c0 = s .c; a1 = e .a; b1 = e .b; c1 = e .c }
+
+-- ---- it is the written one
+
+-- "y of every point of the second body is negated"
+abbrev pub isY : Axis → Bool
+isY X = false
+isY Y = true
+isY Z = false
+
+negate-at : (picked : ℕ → Bool) (j i : ℕ) (l : List ℤ) → getD (negateFrom picked j l) i (pos 0) ≡ cond (picked (j + i)) (negℤ (getD l i (pos 0))) (getD l i (pos 0))
+unfolding negateFrom
+negate-at picked j i [] = nothing (picked (j + i))
+  where
+    nothing : (b : Bool) → pos 0 ≡ cond b (negℤ (pos 0)) (pos 0)
+    nothing true = refl
+    nothing false = refl
+negate-at picked j zero (z ∷ l) = let e : j ≡ j + 0 = omega arith in ap (λ (k : ℕ). cond (picked k) (negℤ z) z) e
+negate-at picked j (suc i) (z ∷ l) =
+    let e : j + 1 + i ≡ j + suc i = omega arith in
+    negate-at picked (j + 1) i l ∙ ap (λ (k : ℕ). cond (picked k) (negℤ (getD l i (pos 0))) (getD l i (pos 0))) e
+
+pub kernel-at-is : (flag face : Bool) (points : List ℤ) (axis : Axis)
+    → kernelAt points (place axis) (isY axis && flag) face ≡ kernelOf face (cond flag (negateFrom (isSecondY face) 0 points) points) axis
+unfolding kernelOf
+kernel-at-is false true points X = refl
+kernel-at-is false true points Y = refl
+kernel-at-is false true points Z = refl
+kernel-at-is false false points X = refl
+kernel-at-is false false points Y = refl
+kernel-at-is false false points Z = refl
+kernel-at-is true true points X = simp negate-at
+kernel-at-is true true points Y = simp negate-at
+kernel-at-is true true points Z = simp negate-at
+kernel-at-is true false points X = simp negate-at
+kernel-at-is true false points Y = simp negate-at
+kernel-at-is true false points Z = simp negate-at
+
+-- ---- it is in range
+
+turned-within : {M : ℕ} {z : ℤ} (turn : Bool) → Within M z → Within M (turned turn z)
+turned-within true h = within-neg h
+turned-within false h = h
+
+pub four-near : (points : List ℤ) → Coordinates points → (at : ℕ) → Near (fourOf points at)
+four-near points h at = record { p0 = h at; p1 = h (at + 3); p2 = h (at + 6); p3 = h (at + 9) }
+
+pub record SmallEnd (m : Moment) : Type 0 where
+  pub a : Within 2_097_152 (m .a)
+  pub b : Within 2_097_152 (m .b)
+  pub c : Within 2_097_152 (m .c)
+
+end-small : (face : Bool) {f : Four} → Near f → SmallEnd (endOf face f)
+end-small true n = record { a = within-sub (n .p0) (n .p1); b = within-sub (n .p1) (n .p2); c = within-sub (n .p1) (n .p3) }
+end-small false n = record { a = within-sub (n .p0) (n .p2); b = within-sub (n .p1) (n .p0); c = within-sub (n .p2) (n .p3) }
+
+sided-near : (turn face : Bool) {f : Four} → Near f → Near (sidedFour turn face f)
+sided-near turn face n = record { p0 = n .p0; p1 = turned-within (turn && face) (n .p1); p2 = turned-within turn (n .p2); p3 = turned-within turn (n .p3) }
+
+pub kernel-small : (points : List ℤ) → Coordinates points → (at : ℕ) (turn face : Bool) → Small (kernelAt points at turn face)
+kernel-small points h at turn face =
+    let s = end-small face (sided-near turn face (four-near points h at)) in
+    let e = end-small face (sided-near turn face (four-near points h (at + 12))) in
+    record { a0 = s .a; b0 = s .b; c0 = s .c; a1 = e .a; b1 = e .b; c1 = e .c }

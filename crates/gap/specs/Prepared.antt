@@ -1,0 +1,99 @@
+-- A pair that asks of the written search what a record asks, and that is in range.
+use mathlib.Core.Path.{_≡_, refl, sym, ap, _∙_}
+use mathlib.Core.Bool.{Bool, _&&_}
+use Prim.Native.Nat.{ℕ, _%_, _/_, _≤_}
+use native.Mathlib.Omega.{arith}
+use lib.Dec.{eqb}
+use lib.IntN.{ℤ, pos}
+use Rattle.whole.specs.Within.{Within}
+use Rattle.rules.specs.declared.Record.{Record}
+use Rattle.rules.specs.Numbers.{deepest, half}
+use Rattle.rules.specs.Gap.{Axis, X, Y, Z, place, gapOn, isVertexFace, sided, separationOn}
+use Rattle.rules.specs.Refusals.{searchRefusal}
+use Rattle.rules.specs.Search.{Query, query}
+use Rattle.kernel.specs.declared.Kernel.{Kernel}
+use Rattle.kernel.specs.declared.Pair.{Pair}
+use Rattle.kernel.specs.Kernel.{kern, kernelOf, asked, onAxis, apartOn}
+use Rattle.kernel.specs.Same.{gap-kernel}
+use Rattle.kernel.specs.Ranges.{Ranged}
+use Rattle.refusals.specs.Accepted.{AcceptedSearch, accepted-search}
+use Rattle.gap.specs.Points.{Coordinates, kernelAt, kernel-at-is, kernel-small, isY}
+
+pub record Prepared (r : Record) (words : ℕ) (p : Pair) : Type 0 where
+  pub asks : asked p ≡ query r words
+  pub ranged : Ranged p
+
+-- "Flag bit 0 set"
+abbrev pub flagged : Record → Bool
+flagged r = eqb (r .flags % 2) 1
+
+abbrev pub axisOf : Record → Axis → Kernel
+axisOf r axis = kernelAt (r .points) (place axis) (isY axis && flagged r) (isVertexFace r)
+
+abbrev pub pairOf : Record → ℕ → Pair
+pairOf r words =
+    record {
+      x = axisOf r X;
+      y = axisOf r Y;
+      z = axisOf r Z;
+      dx = r .separation;
+      dy = r .separation;
+      dz = r .separation;
+      face = isVertexFace r;
+      tolerance = r .tolerance;
+      budget = r .budget;
+      room = half words;
+    }
+
+module _ (r : Record) (words : ℕ) where
+  on-axis : (axis : Axis) → onAxis (pairOf r words) axis ≡ kernelOf (isVertexFace r) (sided r) axis
+  unfolding sided
+  on-axis X = kernel-at-is (flagged r) (isVertexFace r) (r .points) X
+  on-axis Y = kernel-at-is (flagged r) (isVertexFace r) (r .points) Y
+  on-axis Z = kernel-at-is (flagged r) (isVertexFace r) (r .points) Z
+
+  gap-is : (axis : Axis) (q a b c : ℕ) → asked (pairOf r words) .gap axis q a b c ≡ gapOn (isVertexFace r) (sided r) axis q a b c
+  gap-is axis q a b c = ap (λ (K : Kernel). kern K (pos q) (pos a) (pos b) (pos c)) (on-axis axis) ∙ sym (gap-kernel (sided r) axis q a b c (isVertexFace r))
+
+  separation-is : (axis : Axis) → apartOn (pairOf r words) axis ≡ separationOn r axis
+  separation-is X = refl
+  separation-is Y = refl
+  separation-is Z = refl
+
+  pair-asks : asked (pairOf r words) ≡ query r words
+  pair-asks =
+      λ i. record {
+        gap = λ axis q a b c. gap-is axis q a b c i;
+        isFace = isVertexFace r;
+        separation = λ axis. separation-is axis i;
+        tolerance = r .tolerance;
+        budget = r .budget;
+        room = half words;
+        deepest = deepest;
+      }
+
+  pub coordinates : searchRefusal r words ≡ 0 → Coordinates (r .points)
+  coordinates e = λ i. record { most = accepted-search r words e .query .coordinate i }
+
+  pub pair-prepared : searchRefusal r words ≡ 0 → Prepared r words (pairOf r words)
+  pair-prepared e =
+      let h = accepted-search r words e in
+      let a = h .query in
+      let small = kernel-small (r .points) (coordinates e) in
+      record {
+        asks = pair-asks;
+        ranged =
+            record {
+              x = small 0 (isY X && flagged r) (isVertexFace r);
+              y = small 1 (isY Y && flagged r) (isVertexFace r);
+              z = small 2 (isY Z && flagged r) (isVertexFace r);
+              dx = a .separation;
+              dy = a .separation;
+              dz = a .separation;
+              tolerance = a .tolerance-most;
+              least-budget = a .budget-least;
+              budget = a .budget-most;
+              least-room = omega (arith, h .words-least);
+              room = omega (arith, h .words-most);
+            };
+      }
