@@ -15,7 +15,7 @@ use Rattle.rules.specs.declared.Parameter.{Parameter}
 use Rattle.rules.specs.declared.Parameter.the-variants.{InT, InU, InV}
 use Rattle.rules.specs.Numbers.{parts}
 use Rattle.rules.specs.Gap.{Axis, X, Y, Z}
-use Rattle.rules.specs.Search.{largest, spread, side}
+use Rattle.rules.specs.Search.{largest, fourWays, spread, side}
 use Rattle.kernel.specs.declared.Kernel.{Kernel}
 use Rattle.kernel.specs.declared.Pair.{Pair}
 use Rattle.kernel.specs.Kernel.{kern, asked, onAxis}
@@ -147,41 +147,27 @@ module _ (p : Pair) where
           (λ axis. stepOf (pos u) (pos v) (changeOf (onAxis p axis)))
           (λ axis. along-t (onAxis p axis) (pos 0) (pos u) (pos v))
 
+  -- along u and v the change is one number at the start and one at the end
+  ends-only : (f : ℕ → ℕ → Axis → ℤ) (start end : Axis → ℤ) → ((x : ℕ) (axis : Axis) → f 0 x axis ≡ start axis) → ((x : ℕ) (axis : Axis) → f 1 x axis ≡ end axis)
+      → max (over-axes start) (over-axes end) ≡ fourWays (λ a x. over-axes (f a x))
+  ends-only f start end s e =
+      sym
+      (ap₂ max (ap₂ max (same-sizes (f 0 0) start (s 0)) (same-sizes (f 0 1) start (s 1))) (ap₂ max (same-sizes (f 1 0) end (e 0)) (same-sizes (f 1 1) end (e 1)))
+      ∙ same-ends (over-axes start) (over-axes end))
+
   pub spread-u : max (sizes (p .x .b0) (p .y .b0) (p .z .b0)) (sizes (p .x .b1) (p .y .b1) (p .z .b1)) ≡ spread (asked p) InU
   unfolding spread
-  spread-u = sym (ap₂ max (ap₂ max (start 0) (start 1)) (ap₂ max (end 0) (end 1)) ∙ same-ends (over-axes (λ axis. onAxis p axis .b0)) (over-axes (λ axis. onAxis p axis .b1)))
-    where
-      start : (v : ℕ) → largest (λ axis. natAbs (asked p .gap axis 1 0 1 v -ℤ asked p .gap axis 1 0 0 v)) ≡ over-axes (λ axis. onAxis p axis .b0)
-      start v =
-          same-sizes
-          (λ axis. kern (onAxis p axis) (pos 1) (pos 0) (pos 1) (pos v) -ℤ kern (onAxis p axis) (pos 1) (pos 0) (pos 0) (pos v))
-          (λ axis. onAxis p axis .b0)
-          (λ axis. along-u-start (onAxis p axis) (pos v))
-
-      end : (v : ℕ) → largest (λ axis. natAbs (asked p .gap axis 1 1 1 v -ℤ asked p .gap axis 1 1 0 v)) ≡ over-axes (λ axis. onAxis p axis .b1)
-      end v =
-          same-sizes
-          (λ axis. kern (onAxis p axis) (pos 1) (pos 1) (pos 1) (pos v) -ℤ kern (onAxis p axis) (pos 1) (pos 1) (pos 0) (pos v))
-          (λ axis. onAxis p axis .b1)
-          (λ axis. along-u-end (onAxis p axis) (pos v))
+  spread-u =
+      ends-only (λ a v axis. asked p .gap axis 1 a 1 v -ℤ asked p .gap axis 1 a 0 v) (λ axis. onAxis p axis .b0) (λ axis. onAxis p axis .b1)
+      (λ v axis. along-u-start (onAxis p axis) (pos v))
+      (λ v axis. along-u-end (onAxis p axis) (pos v))
 
   pub spread-v : max (sizes (p .x .c0) (p .y .c0) (p .z .c0)) (sizes (p .x .c1) (p .y .c1) (p .z .c1)) ≡ spread (asked p) InV
   unfolding spread
-  spread-v = sym (ap₂ max (ap₂ max (start 0) (start 1)) (ap₂ max (end 0) (end 1)) ∙ same-ends (over-axes (λ axis. onAxis p axis .c0)) (over-axes (λ axis. onAxis p axis .c1)))
-    where
-      start : (u : ℕ) → largest (λ axis. natAbs (asked p .gap axis 1 0 u 1 -ℤ asked p .gap axis 1 0 u 0)) ≡ over-axes (λ axis. onAxis p axis .c0)
-      start u =
-          same-sizes
-          (λ axis. kern (onAxis p axis) (pos 1) (pos 0) (pos u) (pos 1) -ℤ kern (onAxis p axis) (pos 1) (pos 0) (pos u) (pos 0))
-          (λ axis. onAxis p axis .c0)
-          (λ axis. along-v-start (onAxis p axis) (pos u))
-
-      end : (u : ℕ) → largest (λ axis. natAbs (asked p .gap axis 1 1 u 1 -ℤ asked p .gap axis 1 1 u 0)) ≡ over-axes (λ axis. onAxis p axis .c1)
-      end u =
-          same-sizes
-          (λ axis. kern (onAxis p axis) (pos 1) (pos 1) (pos u) (pos 1) -ℤ kern (onAxis p axis) (pos 1) (pos 1) (pos u) (pos 0))
-          (λ axis. onAxis p axis .c1)
-          (λ axis. along-v-end (onAxis p axis) (pos u))
+  spread-v =
+      ends-only (λ a u axis. asked p .gap axis 1 a u 1 -ℤ asked p .gap axis 1 a u 0) (λ axis. onAxis p axis .c0) (λ axis. onAxis p axis .c1)
+      (λ u axis. along-v-start (onAxis p axis) (pos u))
+      (λ u axis. along-v-end (onAxis p axis) (pos u))
 
 pub wide : {x : ℤ} → Within 2_097_152 x → Within spreadMost x
 wide h = within-more (lit≤ tt) h

@@ -11,13 +11,14 @@ use Rattle.whole.specs.Read.{cast-back}
 use Rattle.whole.specs.View.{up, dn, minus-view}
 use Rattle.whole.specs.Order.{min-pick, max-pick}
 use Rattle.whole.specs.Within.{Within, within-add, within-sub, within-mul, within-pos, within-more, fits}
+use Rattle.rules.specs.declared.Three.{Three}
 use Rattle.rules.specs.Numbers.{parts}
 use Rattle.kernel.specs.declared.Kernel.{Kernel}
 use Rattle.kernel.specs.Ranges.{Small}
 use Rattle.gap.specs.declared.cell.Cell.{Cell}
 use Rattle.gap.specs.declared.span.Moment.{Moment}
 use Rattle.gap.specs.declared.span.Span.{Span}
-use Rattle.gap.specs.Corners.{blended, momentOf, spanOf}
+use Rattle.gap.specs.Corners.{cellOf, blended, momentOf, spanOf}
 
 -- ---- what the functions may rely on
 
@@ -28,6 +29,11 @@ pub record InParts (w : Cell) : Type 0 where
   pub u1 : w .u1 ≤ parts
   pub v0 : w .v0 ≤ parts
   pub v1 : w .v1 ≤ parts
+
+-- what is known of a box's cell
+pub record Placed (k i : Three) (w : Cell) : Type 0 where
+  pub is : w ≡ cellOf k i
+  pub inParts : InParts w
 
 -- a blend, and a term of F, at most
 abbrev pub blendMost : ℕ

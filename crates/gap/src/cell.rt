@@ -3,8 +3,11 @@ ghost use mathlib.Core.Path.{_≡_};
 ghost use Prim.Native.Nat.{_≤_, _^_};
 ghost use Rattle.rules.specs.Search.{low};
 ghost use Rattle.kernel.specs.Ranges.{Shallow, InGrid};
-ghost use Rattle.gap.specs.Corners.{cellOf};
+ghost use Rattle.gap.specs.Steps.{Placed};
 use rules::Three;
+
+// t, u, v in 0 to 1, counted in parts.
+pub const PARTS: u64 = 1048576;
 
 // A cell's ends in parts.
 pub struct Cell {
@@ -26,7 +29,7 @@ pub fn low(k: u64, i: u64) -> u64
 
 pub fn cell_of(k: Three, i: Three) -> Cell
     requires { ⌜ Shallow k × InGrid k i ⌝ }
-    ensures { λ r. ⌜ r ≡ cellOf k i ⌝ }
+    ensures { λ r. ⌜ Placed k i r ⌝ }
 {
     let t0 = low(k.t, i.t);
     let t1 = low(k.t, i.t + 1);

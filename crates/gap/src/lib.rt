@@ -1,26 +1,22 @@
 // Everything that the search asks about one box of a pair.
 ghost use mathlib.Core.Path.{_≡_};
-ghost use Prim.Native.Nat.{_≤_};
 ghost use Rattle.rules.specs.Refusals.{searchRefusal};
 ghost use Rattle.rules.specs.Search.{survives, inside, corner, near, split};
 ghost use Rattle.kernel.specs.Kernel.{asked};
-ghost use Rattle.kernel.specs.Ranges.{Small, Ranged, Shallow, InGrid};
-ghost use Rattle.gap.specs.Corners.{meets};
+ghost use Rattle.kernel.specs.Ranges.{Ranged, Shallow, InGrid};
 ghost use Rattle.gap.specs.Prepared.{Prepared};
-ghost use Rattle.gap.specs.Steps.{InParts};
-use cell::Cell;
+use cell::PARTS;
 use cell::cell_of;
 use cell::low;
-use kernel::Kernel;
 use kernel::Pair;
 use measure::excess;
+use measure::meets;
 use measure::thin;
 use points::kernel_at;
 use rules::Corner;
 use rules::Parameter;
 use rules::Record;
 use rules::Three;
-use span::over_corners;
 use weigh::spread_t;
 use weigh::spread_u;
 use weigh::spread_v;
@@ -28,29 +24,10 @@ use weigh::weight;
 use weigh::winner;
 
 mod cell; // cell.rt: a box as its ends in parts
-mod measure; // measure.rt: excess and width
+mod measure; // measure.rt: what F at the corners says: survival, excess, width
 mod points; // points.rt: the kernel of an axis, from the coordinates of the eight points
 mod span; // span.rt: the least and the greatest of F over a cell's corners, on one axis
 mod weigh; // weigh.rt: what a split in each parameter is worth
-
-const PARTS: u64 = 1048576;
-
-// A unit of F times parts·parts.
-const UNIT: u64 = 1099511627776;
-
-// Whether F comes within d of 0 on one axis, as far as the corners tell.
-fn meets(k: Kernel, w: Cell, d: u64) -> bool
-    requires { ⌜ Small k × (InParts w × (d ≤ 65536)) ⌝ }
-    ensures { λ r. ⌜ r ≡ meets k w d ⌝ }
-{
-    let s = over_corners(k, w);
-    let limit = (d * UNIT) as i64;
-    if s.least <= limit {
-        -limit <= s.greatest
-    } else {
-        false
-    }
-}
 
 // Whether the box survives.
 pub fn survives(p: Pair, k: Three, i: Three) -> bool

@@ -1,11 +1,11 @@
-// How far F is from contact at a cell's low corner, and how far apart its corner values are.
+// What F at a cell's corners says: on one axis, and on all three.
 ghost use mathlib.Core.Path.{_≡_};
 ghost use Prim.Native.Nat.{_≤_, _*_, _-_};
 ghost use lib.Dec.{leb};
 ghost use lib.IntN.{natAbs};
 ghost use Rattle.rules.specs.Search.{unit};
 ghost use Rattle.kernel.specs.Ranges.{Small, Ranged};
-ghost use Rattle.gap.specs.Corners.{beyond, excessOf, isNarrow, isThin};
+ghost use Rattle.gap.specs.Corners.{meets, beyond, excessOf, isNarrow, isThin};
 ghost use Rattle.gap.specs.Steps.{InParts};
 use super::cell::Cell;
 use super::span::at_moment;
@@ -18,6 +18,16 @@ use whole::size;
 
 // A unit of F times parts·parts.
 const UNIT: u64 = 1099511627776;
+
+// Whether F comes within d of 0 on one axis, as far as the corners tell.
+pub fn meets(k: Kernel, w: Cell, d: u64) -> bool
+    requires { ⌜ Small k × (InParts w × (d ≤ 65536)) ⌝ }
+    ensures { λ r. ⌜ r ≡ meets k w d ⌝ }
+{
+    let s = over_corners(k, w);
+    let limit = (d * UNIT) as i64;
+    (s.least <= limit) & (-limit <= s.greatest)
+}
 
 // By how much F is beyond d units on one axis, at the low corner.
 fn beyond(k: Kernel, w: Cell, d: u64) -> u64

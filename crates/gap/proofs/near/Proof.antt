@@ -4,7 +4,6 @@ use mathlib.Core.Path.{_≡_, sym, _∙_}
 use borrow.Author.Tests.{eq-eqb, ne-eqb}
 use Rattle.rules.specs.Search.{near, excess}
 use Rattle.kernel.specs.Kernel.{asked}
-use Rattle.gap.specs.Grid.{in-parts-of}
 use Rattle.gap.specs.Asked.{excess-is, width-is}
 use Rattle.gap.proofs.near.Statement.{statement}
 use Rattle.gap.proofs.near.Tie as tie
@@ -13,14 +12,14 @@ cell-of-requires : tie.Need-cell-of-requires
 cell-of-requires c κs = search needs
 
 excess-requires : tie.Need-excess-requires
-excess-requires c κs = let p = c .before .pre in (p .0, rw (c .cell-of .ensures) (in-parts-of (p .1 .0) (p .1 .1)))
+excess-requires c κs = search needs
 
 thin-requires : tie.Need-thin-requires
-thin-requires c κs = let p = c .before .before .before .pre in (p .0, rw (c .before .before .cell-of .ensures) (in-parts-of (p .1 .0) (p .1 .1)))
+thin-requires c κs = search needs
 
 -- the excess of the written search
 got : (c : tie.After-excess) → c .excess .result ≡ excess (asked (c .before .before .args .p)) (c .before .before .args .k) (c .before .before .args .i)
-got c = let a = c .before .before .args in (rw (c .before .cell-of .ensures) at (c .excess .ensures)) ∙ excess-is (a .p) (a .k) (a .i)
+got c = let a = c .before .before .args in (rw (c .before .cell-of .ensures .is) at (c .excess .ensures)) ∙ excess-is (a .p) (a .k) (a .i)
 
 returns : tie.Need-returns
 unfolding near
@@ -30,7 +29,7 @@ returns-2 : tie.Need-returns-2
 unfolding near
 returns-2 c =
     let a = c .before .before .before .before .args in
-    rw (← got (c .before .before), ne-eqb _ 0 (c .before .if1 .left), ← width-is (a .p) (a .k) (a .i), ← c .before .before .before .cell-of .ensures) (c .thin .ensures)
+    rw (← got (c .before .before), ne-eqb _ 0 (c .before .if1 .left), ← width-is (a .p) (a .k) (a .i), ← c .before .before .before .cell-of .ensures .is) (c .thin .ensures)
 
 pub near-spec : {M : Type 1} → statement M
 near-spec = tie.close (tie.spec cell-of-requires excess-requires thin-requires returns returns-2)

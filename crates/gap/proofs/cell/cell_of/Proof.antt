@@ -1,7 +1,8 @@
 -- `gap::cell::cell_of` meets its contract.
 use native.Mathlib.Omega.{arith}
-use Rattle.gap.specs.Grid.{index-most}
+use Rattle.gap.specs.Grid.{index-most, in-parts-of}
 use borrow.Author.Needs.{needs}
+use mathlib.Core.Path.{refl}
 use Rattle.gap.proofs.cell.cell_of.Statement.{statement}
 use Rattle.gap.proofs.cell.cell_of.Tie as tie
 
@@ -34,6 +35,7 @@ low-requires-6 c κs = search needs
 
 returns : tie.Need-returns
 returns c =
+    let p = c .before .before .before .before .before .before .before .before .before .pre in
     rw (
       c .before .before .before .before .before .before .before .before .low .ensures,
       c .before .before .before .before .before .before .low2 .ensures,
@@ -42,6 +44,7 @@ returns c =
       c .before .before .low5 .ensures,
       c .low6 .ensures,
     )
+    (record { is = refl; inParts = in-parts-of (p .0) (p .1) })
 
 pub cell-of-spec : {M : Type 1} → statement M
 cell-of-spec =
