@@ -1,10 +1,10 @@
 -- What is not refused is answered: the budget is not 0, and 61 levels are enough.
 use mathlib.Core.Path.{_≡_, subst}
-use mathlib.Core.Bool.{Bool, true, false, not, cond}
+use mathlib.Core.Bool.{Bool, true, false, not, cond, _&&_}
 use mathlib.Core.List.{List, [], _∷_, _++_}
 use Prim.Native.Nat.{ℕ, _<_}
 use native.Mathlib.Omega.{arith}
-use lib.Dec.{T, leb, leb→le}
+use lib.Dec.{T, leb, ltb, leb→le, ltb→lt}
 use Rattle.rules.specs.declared.Record.{Record}
 use Rattle.rules.specs.declared.Answer.the-variants.{Refused}
 use Rattle.rules.specs.Numbers.{isBudget, isQueue}
@@ -22,17 +22,18 @@ abbrev NoneDue : List Case → Type 0
 NoneDue [] = Unit
 NoneDue (c ∷ cs) = T (not (c .due)) × NoneDue cs
 
-abbrev Numbered : List Case → Type 0
-Numbered [] = Unit
-Numbered (c ∷ cs) = (0 < c .number) × Numbered cs
+-- no row has the number 0
+abbrev numbered : List Case → Bool
+numbered [] = true
+numbered (c ∷ cs) = ltb 0 (c .number) && numbered cs
 
-first-none : (cs : List Case) → Numbered cs → first cs ≡ 0 → NoneDue cs
+first-none : (cs : List Case) → T (numbered cs) → first cs ≡ 0 → NoneDue cs
 unfolding first
 first-none [] h e = tt
-first-none (c ∷ cs) h e = go (c .due) e (first-none cs (h .1))
+first-none (c ∷ cs) h e = go (c .due) e (first-none cs (and-both (ltb 0 (c .number)) (numbered cs) h .1))
   where
     go : (d : Bool) → cond d (c .number) (first cs) ≡ 0 → (first cs ≡ 0 → NoneDue cs) → T (not d) × NoneDue cs
-    go true f g = absurd (omega (arith, h .0))
+    go true f g = absurd (omega (arith, ltb→lt 0 (c .number) (and-both (ltb 0 (c .number)) (numbered cs) h .0)))
     go false f g = (tt, g f)
 
 not-not : (b : Bool) → T (not (not b)) → T b
@@ -46,11 +47,8 @@ accepted-budget r words e = leb→le 1 (r .budget) (and-both (leb 1 (r .budget))
     cases : List Case
     cases = recordCases r ++ (record { number = 7; due = not (isQueue words) } ∷ [])
 
-    numbered : Numbered cases
-    numbered = (omega arith, (omega arith, (omega arith, (omega arith, (omega arith, (omega arith, (omega arith, tt)))))))
-
     none : NoneDue cases
-    none = first-none cases numbered e
+    none = first-none cases tt e
 
 -- ---- what an accepted search answers is kept; `Kept` of a refusal is absurd, so it is an answer
 record-kernel : (r : Record) (words : ℕ) → HasKernel (query r words)

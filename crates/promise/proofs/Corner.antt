@@ -1,47 +1,15 @@
--- The low corner of a box on the grid is on the bodies, and within the separation and its excess; the excess of a survivor is at most its width.
-use mathlib.Core.Path.{_≡_, sym, ap, _∙_}
-use mathlib.Core.Bool.{Bool, true, false, not, _||_}
-use Prim.Native.Nat.{ℕ, _+_, _*_, _-_, _^_, _≤_, _<_, max}
-use native.Mathlib.Nat.{le-trans, le-of-lt, add-mul, mul-le-mul-right, le-max-left, le-max-right, max-le, div-add-mod', mod-lt, div-lt-iff-lt-mul}
+-- The low corner of a box is within the separation and its excess; the excess of a survivor is at most its width.
+use mathlib.Core.Path.{_≡_}
+use mathlib.Core.Bool.{Bool, true, false, _||_}
+use Prim.Native.Nat.{ℕ, _+_, _*_, _-_, _≤_, _<_, max}
+use native.Mathlib.Nat.{le-trans, add-mul, le-max-left, le-max-right, max-le, div-add-mod', mod-lt, div-lt-iff-lt-mul}
 use native.Mathlib.Omega.{arith}
-use lib.Pow.{pow-add}
 use lib.IntN.{natAbs, _-ℤ_}
 use lib.Dec.{T, leb, eqb, leb→le, eqb→eq}
 use Rattle.rules.specs.Numbers.{parts}
-use Rattle.rules.specs.Gap.{Axis, X, Y, Z, Place}
-use Rattle.rules.specs.Search.{Query, Box, Depths, side, low, unit, largest, roundUp, least, greatest, survives, width, excess, near, inside}
-use Rattle.kernel.specs.Ranges.{InGrid}
+use Rattle.rules.specs.Gap.{Axis, X, Y, Z}
+use Rattle.rules.specs.Search.{Query, Box, Depths, low, unit, largest, roundUp, least, greatest, survives, width, excess, near}
 use Rattle.promise.proofs.Survive.{survivor-size}
-use Rattle.promise.proofs.Split.{Shallow}
-use Rattle.promise.proofs.Halves.{Domain}
-
-abbrev pub lowPlace : Depths → Box → Place
-lowPlace k b = record { q = parts; a = low (k .t) (b .t); b = low (k .u) (b .u); c = low (k .v) (b .v) }
-
--- ---- on the bodies
-low-parts : (k i : ℕ) → k ≤ 20 → i < 2 ^ k → low k i ≤ parts
-low-parts k i h g = le-trans (mul-le-mul-right (side k) (le-of-lt g)) (whole (sym (pow-add 2 k (20 - k)) ∙ ap (λ (n : ℕ). 2 ^ n) (sum k h)))
-  where
-    sum : (k : ℕ) → k ≤ 20 → k + (20 - k) ≡ 20
-    sum k h = omega arith
-
-    whole : 2 ^ k * side k ≡ 2 ^ 20 → 2 ^ k * side k ≤ parts
-    whole e = omega arith
-
-pub low-domain : (S : Query) (k : Depths) (b : Box) → S .deepest ≤ 20 → Shallow S k → InGrid k b → T (inside S k b) → Domain S (lowPlace k b)
-unfolding inside
-low-domain S k b deep h g t =
-    record {
-      positive = omega arith;
-      t = low-parts (k .t) (b .t) (le-trans (h .t) deep) (g .t);
-      u = low-parts (k .u) (b .u) (le-trans (h .u) deep) (g .u);
-      v = low-parts (k .v) (b .v) (le-trans (h .v) deep) (g .v);
-      face = λ f. leb→le _ parts (face (S .isFace) _ f t);
-    }
-  where
-    face : (f x : Bool) → T f → T (not f || x) → T x
-    face true x p t = t
-    face false x p t = absurd p
 
 -- ---- rounding up
 round-up : (n : ℕ) → n ≤ roundUp n * unit

@@ -6,23 +6,16 @@ use Rattle.rules.specs.declared.Record.{Record}
 use Rattle.rules.specs.declared.Answer.{Answer}
 use Rattle.rules.specs.declared.Answer.the-variants.{Met, Clear, Spent, Room, Floor, Refused}
 use Rattle.rules.specs.Answers.{told}
-use Rattle.rules.specs.Gap.{Place, OnBodies}
 use Rattle.rules.specs.Refusals.{searchRefusal}
 use Rattle.rules.specs.Search.{query, run, unless, search}
 use Rattle.promise.specs.Promise.{Clear-is-clear, No-earlier, By-a-margin, There, Within-tolerance, Promised, Demand-3, Refused-exactly}
 use Rattle.promise.proofs.Survive.{touch-close}
-use Rattle.promise.proofs.Halves.{Domain}
+use Rattle.promise.proofs.Domain.{in-domain, on-bodies}
 use Rattle.promise.proofs.Levels.{Moment, Kept}
 use Rattle.promise.proofs.Accepted.{accepted-kept, run-ended}
 
--- ---- from the search's question to the record
+-- ---- of one record
 module _ (r : Record) (words : ℕ) where
-  in-domain : {m : Place} → OnBodies r m → Domain (query r words) m
-  in-domain b = record { positive = b .positive; t = b .t; u = b .u; v = b .v; face = b .face }
-
-  on-bodies : {m : Place} → Domain (query r words) m → OnBodies r m
-  on-bodies d = record { positive = d .positive; t = d .t; u = d .u; v = d .v; face = d .face }
-
   -- a word that answers a moment
   moment-promised : (word t u v excess count : ℕ)
       → (word ≡ 2 → ⊥)
@@ -32,9 +25,9 @@ module _ (r : Record) (words : ℕ) where
   moment-promised word t u v excess count not-clear met M =
       record {
         clear-is-clear = λ e. absurd (not-clear e);
-        no-earlier = λ _ m b touch. M .no-earlier m (in-domain b) (touch-close (query r words) m (b .positive) touch);
-        by-a-margin = λ m b close. (λ e. absurd (not-clear e), λ _. M .no-earlier m (in-domain b) close);
-        there = λ _. (on-bodies (M .domain), M .size);
+        no-earlier = λ _ m b touch. M .no-earlier m (in-domain r words b) (touch-close (query r words) m (b .positive) touch);
+        by-a-margin = λ m b close. (λ e. absurd (not-clear e), λ _. M .no-earlier m (in-domain r words b) close);
+        there = λ _. (on-bodies r words (M .domain), M .size);
         within-tolerance = met;
       }
 
@@ -42,9 +35,9 @@ module _ (r : Record) (words : ℕ) where
   kept-promised (Met t u v excess n) k = moment-promised 1 t u v excess n (λ e. omega arith) (λ e. k .1) (k .0)
   kept-promised (Clear n) k =
       record {
-        clear-is-clear = λ e m b touch. k m (in-domain b) (touch-close (query r words) m (b .positive) touch);
+        clear-is-clear = λ e m b touch. k m (in-domain r words b) (touch-close (query r words) m (b .positive) touch);
         no-earlier = λ t. absurd t;
-        by-a-margin = λ m b close. (λ e. k m (in-domain b) close, λ t. absurd t);
+        by-a-margin = λ m b close. (λ e. k m (in-domain r words b) close, λ t. absurd t);
         there = λ t. absurd t;
         within-tolerance = λ e. absurd (omega arith);
       }

@@ -1,20 +1,21 @@
 -- The next level loses no place of the bodies: a box that holds one has a half that does, and no such half is dropped. Its boxes stay on the grid.
 use mathlib.Core.Path.{_≡_, sym, ap, _∙_, subst}
 use mathlib.Core.Logic.{_⊎_, inl, inr, ⊎-map}
-use mathlib.Core.Bool.{Bool, true, false, not, _||_}
+use mathlib.Core.Bool.{Bool, true, false, not}
 use mathlib.Core.List.{List, map}
 use Prim.Native.Nat.{ℕ, suc, _+_, _*_, _-_, _^_, _≤_, _<_}
-use native.Mathlib.Nat.{le-of-lt, mul-comm, mul-assoc, mul-add, mul-le-mul-left, le-of-mul-le-mul-left, pow-suc}
+use native.Mathlib.Nat.{le-of-lt, mul-comm, mul-assoc, mul-le-mul-left, pow-suc}
 use native.Mathlib.Omega.{arith}
-use lib.Dec.{T, leb, leb→le, le→leb, nleb→lt}
+use lib.Dec.{T, leb, leb→le, nleb→lt}
 use Rattle.rules.specs.declared.Parameter.{Parameter}
 use Rattle.rules.specs.declared.Parameter.the-variants.{InT, InU, InV}
 use Rattle.rules.specs.Numbers.{parts}
 use Rattle.rules.specs.Gap.{Place}
-use Rattle.rules.specs.Search.{Query, Box, Depths, side, low, high, on, deeper, lowHalf, highHalf, inside, halves}
+use Rattle.rules.specs.Search.{Query, Box, Depths, side, high, on, deeper, lowHalf, highHalf, inside, halves}
 use Rattle.kernel.specs.Ranges.{InGrid}
 use Rattle.promise.proofs.Box.{Between, In}
 use Rattle.promise.proofs.Split.{at}
+use Rattle.promise.proofs.Domain.{Domain, in-inside}
 use Rattle.promise.proofs.Lists.{Every, Some, Ascending, those-every, those-some, those-ascending, map-every, map-some, map-ascending, merge-every, merge-some, merge-ascending}
 
 -- ---- one parameter: a cell is its two halves
@@ -92,35 +93,6 @@ high-up : (p : Parameter) (a b : Box) → a .t ≤ b .t → highHalf p a .t ≤ 
 high-up InT a b h = omega arith
 high-up InU a b h = h
 high-up InV a b h = h
-
--- ---- places of the bodies, as the search's question has them
-pub record Domain (S : Query) (m : Place) : Type 0 where
-  pub positive : 0 < m .q
-  pub t : m .a ≤ m .q
-  pub u : m .b ≤ m .q
-  pub v : m .c ≤ m .q
-  pub face : T (S .isFace) → m .b + m .c ≤ m .q
-
--- a box that holds one is not dropped
-in-inside : (S : Query) (k : Depths) (b : Box) (m : Place) → Domain S m → In k b m → T (inside S k b)
-unfolding inside
-in-inside S k b m d w = go (S .isFace) (d .face)
-  where
-    x : ℕ
-    x = low (k .u) (b .u)
-
-    y : ℕ
-    y = low (k .v) (b .v)
-
-    small : m .b + m .c ≤ m .q → x + y ≤ parts
-    small h = le-of-mul-le-mul-left scaled (d .positive)
-      where
-        scaled : m .q * (x + y) ≤ m .q * parts
-        scaled = omega (arith, mul-add (m .q) x y, w .u .above, w .v .above, mul-comm (m .q) parts)
-
-    go : (f : Bool) → (T f → m .b + m .c ≤ m .q) → T (not f || leb (x + y) parts)
-    go true h = le→leb (x + y) parts (small (h tt))
-    go false h = tt
 
 -- ---- the next level
 module _ (S : Query) (k : Depths) (p : Parameter) (l : List Box) where

@@ -1,7 +1,7 @@
 -- The search, level by level: what holds of a level holds of the next, and so every answer is kept; 61 levels are enough.
 use mathlib.Core.Path.{_≡_}
 use mathlib.Core.Logic.{inl, inr}
-use mathlib.Core.Bool.{Bool, true, false, not, _||_}
+use mathlib.Core.Bool.{Bool, true, false, not}
 use mathlib.Core.List.{List, [], _∷_}
 use Prim.Native.Nat.{ℕ, zero, suc, _+_, _*_, _≤_, _<_}
 use native.Mathlib.Nat.{le-trans, le-refl, mul-comm, mul-le-mul-right}
@@ -20,9 +20,10 @@ use Rattle.promise.proofs.Box.{Between, In, HasKernel}
 use Rattle.promise.proofs.Survive.{Close, close-survives}
 use Rattle.promise.proofs.Lists.{Every, Some, From, Ascending, every-weaken, some-weaken, those-every, those-some, those-ascending}
 use Rattle.promise.proofs.Split.{Shallow, at, split-open, deeper-shallow, sum, deeper-sum}
-use Rattle.promise.proofs.Halves.{Domain, halves-ascending, halves-grid, halves-some}
+use Rattle.promise.proofs.Domain.{Domain, low-domain, origin-inside}
+use Rattle.promise.proofs.Halves.{halves-ascending, halves-grid, halves-some}
 use Rattle.promise.proofs.First.{Outcome, early, none, met, floor, spent, some, check-first}
-use Rattle.promise.proofs.Corner.{low-domain, low-size, near-excess}
+use Rattle.promise.proofs.Corner.{low-size, near-excess}
 
 -- ---- what holds of an answer
 module _ (S : Query) where
@@ -134,18 +135,13 @@ module _ (S : Query) (H : HasKernel S) (deep : S .deepest ≤ 20) where
   whole q a h = record { above = omega arith; under = omega arith }
 
   level-0 : Level S origin (origin ∷ [])
-  unfolding inside
   level-0 =
       record {
         shallow = record { t = omega arith; u = omega arith; v = omega arith };
         ascending = (tt, tt);
-        grid = ((record { t = omega arith; u = omega arith; v = omega arith }, all-inside (S .isFace)), tt);
+        grid = ((record { t = omega arith; u = omega arith; v = omega arith }, origin-inside S), tt);
         cover = λ m d close. inl (record { t = whole (m .q) (m .a) (d .t); u = whole (m .q) (m .b) (d .u); v = whole (m .q) (m .c) (d .v) });
       }
-    where
-      all-inside : (f : Bool) → T (not f || true)
-      all-inside true = tt
-      all-inside false = tt
 
   pub run-kept : 0 < S .budget → Kept S (run S)
   unfolding run

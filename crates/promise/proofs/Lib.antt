@@ -5,6 +5,7 @@ pub mod Box
 pub mod Survive
 pub mod Lists
 pub mod Split
+pub mod Domain
 pub mod Halves
 pub mod First
 pub mod Corner
