@@ -1,4 +1,4 @@
--- The proofs, from the ground up.
+-- The proofs, from the ground up: a straight line; a box; the lists of a level; the first survivor; the levels; and the promises.
 pub mod Line
 pub mod Side
 pub mod Box
