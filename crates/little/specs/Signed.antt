@@ -4,7 +4,7 @@
 --     high, low                  where the test `v < 0` held, the bits of v are in the upper half; where it failed, in the lower
 --     casts, same                bits in the lower half are a number that a cast to u32 takes, and it gives those bits
 -- Assumes nothing.
-use Prim.Native.Nat.{ℕ, suc, _+_, _-_, _≤_, _<_}
+use Prim.Native.Nat.{ℕ, suc, _-_, _≤_, _<_}
 use mathlib.Core.Path.{_≡_, refl, sym, ap, _∙_, subst}
 use mathlib.Core.Bool.{Bool, true, false, cond}
 use native.Mathlib.Omega.{arith}

@@ -15,9 +15,9 @@ use lib.ListN.{length, getD, take, drop, length-append, drop-of-length-le}
 use lib.Seq.{drop-at, drop-drop, drop-append-add, drop-append-seam}
 use Rattle.rules.specs.declared.Record.{Record}
 use Rattle.rules.specs.declared.Form.{Form}
-use Rattle.rules.specs.declared.Opened.the-variants.{Records, Refused}
+use Rattle.rules.specs.declared.Opened.the-variants.{Records}
 use Rattle.rules.specs.Refusals.{first, recordRefusal}
-use Rattle.rules.specs.QueryFile.{word, wordBytes, stands, recordAt, recordBytes, queryForm, editionBytes, trailerBytes, recordsBytes, fileBytes, openRefusal, openUnless, opened, recordCount, noRecord, fetchUnless, fetched, put}
+use Rattle.rules.specs.QueryFile.{word, wordBytes, stands, recordAt, recordBytes, queryForm, editionBytes, trailerBytes, recordsBytes, fileBytes, openRefusal, openUnless, opened, noRecord, fetchUnless, fetched, put}
 use Rattle.little.specs.Word.{length-word, word-at}
 use Rattle.little.specs.Stands.{stands-there}
 use Rattle.queries.specs.Opening.{opened-records, reach-index, reach-good}

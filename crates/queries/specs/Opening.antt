@@ -6,18 +6,16 @@
 use Prim.Native.Nat.{ℕ, zero, suc, _+_, _-_, _*_, _<_, _≤_}
 use mathlib.Core.Path.{_≡_, refl, sym, ap, _∙_}
 use mathlib.Core.Bool.{Bool, true, false, not, _||_}
-use mathlib.Core.List.{List, [], _∷_, _++_}
+use mathlib.Core.List.{List, [], _∷_}
 use native.Mathlib.Omega.{arith}
 use borrow.Author.Tests.{not-false, ltb-false, eqb-true, lt-ltb, le-ltb}
 use lib.Dec.{ltb, eqb}
 use lib.ListN.{length, drop}
 use Rattle.rules.specs.declared.Record.{Record}
-use Rattle.rules.specs.declared.Fetched.{Fetched}
 use Rattle.rules.specs.declared.Form.{Form}
-use Rattle.rules.specs.declared.Opened.{Opened}
 use Rattle.rules.specs.declared.Opened.the-variants.{Records, Refused}
 use Rattle.rules.specs.Refusals.{Case, first}
-use Rattle.rules.specs.QueryFile.{word, stands, editionBytes, queryForm, trailerPlace, backPointer, recordCount, openCases, openRefusal, openUnless, opened, reachRefusal, noRecord, fetchUnless}
+use Rattle.rules.specs.QueryFile.{stands, editionBytes, queryForm, trailerPlace, backPointer, recordCount, openCases, openRefusal, openUnless, opened, reachRefusal, noRecord, fetchUnless}
 use Rattle.refusals.specs.Cases.{orElse, first-then, not-due}
 
 pub refused-open : (k place n : ℕ) → (k ≡ 0 → ⊥) → Refused k ≡ openUnless k place n

@@ -17,7 +17,7 @@ use lib.Seq.{getD-drop, drop-drop, take-add}
 use mir.Syntax.{w32}
 use mir.Val.{SFits}
 use Rattle.rules.specs.declared.Record.{Record}
-use Rattle.rules.specs.QueryFile.{word, wordBytes, signed, bits, coordinatesAt, coordinateBytes, recordAt, recordBytes, put, putUnless, writeRefusal}
+use Rattle.rules.specs.QueryFile.{word, wordBytes, bits, coordinatesAt, coordinateBytes, recordAt, recordBytes, put, putUnless, writeRefusal}
 use Rattle.refusals.specs.Accepted.{Accepted}
 use Rattle.little.specs.Put.{drop-put, put-same}
 use Rattle.little.specs.Word.{Bytes, word-drop, word-back, word-at, word-lt, word-same, digits}

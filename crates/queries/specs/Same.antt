@@ -4,17 +4,17 @@
 -- Assumes nothing.
 use Prim.Native.Nat.{ℕ, zero, suc, _+_, _-_, _*_, _≤_}
 use mathlib.Core.Path.{_≡_, refl, sym, ap, _∙_}
-use mathlib.Core.List.{List, [], _∷_, _++_, append-assoc}
+use mathlib.Core.List.{List, [], _∷_, _++_}
 use native.Mathlib.Omega.{arith}
 use lib.ListN.{length, take, drop, take-append-drop, length-drop}
 use lib.Seq.{take-add, drop-drop, take-all}
 use Rattle.rules.specs.declared.Record.{Record}
 use Rattle.rules.specs.declared.Form.{Form}
 use Rattle.rules.specs.declared.Opened.the-variants.{Records}
-use Rattle.rules.specs.QueryFile.{word, wordBytes, recordAt, recordBytes, queryForm, editionBytes, trailerBytes, recordsBytes, fileBytes, trailerPlace, backPointer, recordCount, openRefusal, opened}
+use Rattle.rules.specs.QueryFile.{wordBytes, recordAt, queryForm, editionBytes, trailerBytes, recordsBytes, fileBytes, trailerPlace, recordCount, openRefusal, opened}
 use Rattle.little.specs.Word.{Bytes, word-same}
 use Rattle.little.specs.Stands.{stands-bytes}
-use Rattle.queries.specs.Opening.{Opens, opens, opened-records}
+use Rattle.queries.specs.Opening.{opens, opened-records}
 use Rattle.queries.specs.RoundTrip.{record-bytes}
 
 -- so many records from `at` on

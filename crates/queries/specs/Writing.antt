@@ -5,19 +5,19 @@
 --     trailer-room                 what no refusal of a trailer says
 -- Assumes nothing.
 use Prim.Native.Nat.{ℕ, zero, suc, _+_, _-_, _*_, _<_, _≤_}
-use mathlib.Core.Path.{_≡_, refl, sym, ap, _∙_}
-use mathlib.Core.Bool.{Bool, true, false, not, cond}
-use mathlib.Core.List.{List, [], _∷_, _++_}
+use mathlib.Core.Path.{_≡_, refl, sym, _∙_}
+use mathlib.Core.Bool.{not, cond}
+use mathlib.Core.List.{List, [], _∷_}
 use native.Mathlib.Omega.{arith}
 use native.Mathlib.Nat.{mul-le-mul}
 use borrow.Author.Tests.{ltb-false}
 use lib.Dec.{ltb, eqb, eqb·suc-zero}
-use lib.ListN.{length, drop}
+use lib.ListN.{length}
 use Rattle.rules.specs.declared.Record.{Record}
 use Rattle.rules.specs.declared.Form.{Form}
 use Rattle.rules.specs.declared.Wrote.{Wrote}
 use Rattle.rules.specs.declared.Wrote.the-variants.{Done, Refused}
-use Rattle.rules.specs.Refusals.{Case, first, recordCases, recordRefusal}
+use Rattle.rules.specs.Refusals.{first, recordCases, recordRefusal}
 use Rattle.rules.specs.QueryFile.{put, space, writeRefusal, trailerRefusal, wroteUnless, putUnless, Written}
 use Rattle.refusals.specs.Cases.{orElse, first-then, not-due}
 

@@ -1,9 +1,7 @@
 -- `queries::fetch` meets its contract: in each arm, what the file opened to. Assumes nothing.
 use mathlib.Core.Path.{_≡_, sym, _∙_}
 use native.Mathlib.Omega.{arith}
-use Prim.Native.Nat.{_≤_, _<_}
-use Rattle.rules.specs.declared.Opened.the-variants.{Records, Refused}
-use Rattle.rules.specs.QueryFile.{queryForm, openRefusal, opened, reachRefusal, fetchUnless, fetched, recordCount}
+use Rattle.rules.specs.QueryFile.{queryForm, openRefusal, fetchUnless, fetched}
 use Rattle.queries.specs.Opening.{Holds, opened-records, opened-refused, reach-refused, reach-index, reach-good, refused-fetch}
 use borrow.Author.Needs.{needs}
 use Rattle.queries.proofs.fetch.Statement.{statement}

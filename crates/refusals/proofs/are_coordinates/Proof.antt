@@ -4,7 +4,7 @@ use mathlib.Core.Path.{_≡_, refl, sym, _∙_}
 use mathlib.Core.Bool.{_&&_}
 use native.Mathlib.Omega.{arith}
 use borrow.Author.Needs.{needs, sfits-of}
-use lib.ListN.{length, drop}
+use lib.ListN.{drop}
 use mir.Facts.{toZ-ofZ}
 use Rattle.rules.specs.Numbers.{isCoordinate}
 use Rattle.rules.specs.Refusals.{every}

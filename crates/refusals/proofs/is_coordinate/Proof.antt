@@ -1,5 +1,5 @@
 -- `refusals::is_coordinate` meets its contract: two tests of a signed number are one of its size. Assumes nothing.
-use mathlib.Core.Path.{_≡_, refl, sym, ap, _∙_}
+use mathlib.Core.Path.{_≡_, refl, sym, _∙_}
 use mathlib.Core.Bool.{_&&_, and-true}
 use lib.Dec.{leb, leb·suc-suc}
 use lib.IntN.{ℤ, pos, negsuc}
