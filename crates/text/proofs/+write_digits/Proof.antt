@@ -30,7 +30,6 @@ write-digits-below t =
     (falls 1 write-digits-kinds.ps _<_ μ-write-digits t)
     write-digits.Pre
 
--- src/lib.rt:39:42
 write-digits-cast-write-byte : (t : ℕ) → write-digits-lts.Need-cast-write-byte (
   write-byte-reads.Asked,
   write-byte-reads.Learnt,
@@ -39,7 +38,6 @@ write-digits-cast-write-byte : (t : ℕ) → write-digits-lts.Need-cast-write-by
 ) (write-digits-at t) write-digits.Post
 write-digits-cast-write-byte t c = omega arith
 
--- src/lib.rt:39:36
 write-digits-add-write-byte : (t : ℕ) → write-digits-lts.Need-add-write-byte (
   write-byte-reads.Asked,
   write-byte-reads.Learnt,
@@ -48,7 +46,6 @@ write-digits-add-write-byte : (t : ℕ) → write-digits-lts.Need-add-write-byte
 ) (write-digits-at t) write-digits.Post
 write-digits-add-write-byte t c = omega arith
 
--- src/lib.rt:39:9
 write-digits-write-byte-requires : (t : ℕ) → write-digits-lts.Need-write-byte-requires (
   write-byte-reads.Asked,
   write-byte-reads.Learnt,
@@ -60,7 +57,6 @@ write-digits-write-byte-requires t c κs =
     let e : length (decimal (s .args .n)) ≡ 1 = ap length (decimal-short (s .args .n) (c .before .if1 .taken)) in
     omega (arith, s .pre .1)
 
--- src/lib.rt:39:9
 write-digits-same-length : (t : ℕ) → write-digits-lts.Need-same-length (
   write-byte-reads.Asked,
   write-byte-reads.Learnt,
@@ -69,7 +65,6 @@ write-digits-same-length : (t : ℕ) → write-digits-lts.Need-same-length (
 ) (write-digits-at t) write-digits.Post
 write-digits-same-length t c = search needs
 
--- src/lib.rt:39:9
 write-digits-returns : (t : ℕ) → write-digits-lts.Need-returns (
   write-byte-reads.Asked,
   write-byte-reads.Learnt,
@@ -80,7 +75,6 @@ write-digits-returns t c =
     let k = c .before .before in
     wrote-short (k .before .before .if1 .taken) (k .write-byte .ensures)
 
--- src/lib.rt:41:9
 write-digits-write-digits-requires : (t : ℕ) → write-digits-lts.Need-write-digits-requires (
   write-byte-reads.Asked,
   write-byte-reads.Learnt,
@@ -91,7 +85,6 @@ write-digits-write-digits-requires t c κs =
     let s = c .before .before .before in
     (omega (arith, s .pre .0), omega (arith, s .pre .1, tenth-fits (s .args .n) (s .args .at) _ (c .before .if1 .left) (s .pre .1)))
 
--- src/lib.rt:42:33
 write-digits-cast-write-byte-2 : (t : ℕ) → write-digits-lts.Need-cast-write-byte-2 (
   write-byte-reads.Asked,
   write-byte-reads.Learnt,
@@ -100,7 +93,6 @@ write-digits-cast-write-byte-2 : (t : ℕ) → write-digits-lts.Need-cast-write-
 ) (write-digits-at t) write-digits.Post
 write-digits-cast-write-byte-2 t c = omega arith
 
--- src/lib.rt:42:27
 write-digits-add-write-byte-2 : (t : ℕ) → write-digits-lts.Need-add-write-byte-2 (
   write-byte-reads.Asked,
   write-byte-reads.Learnt,
@@ -109,7 +101,6 @@ write-digits-add-write-byte-2 : (t : ℕ) → write-digits-lts.Need-add-write-by
 ) (write-digits-at t) write-digits.Post
 write-digits-add-write-byte-2 t c = omega arith
 
--- src/lib.rt:42:5
 write-digits-write-byte-requires-2 : (t : ℕ) → write-digits-lts.Need-write-byte-requires-2 (
   write-byte-reads.Asked,
   write-byte-reads.Learnt,
@@ -121,7 +112,6 @@ write-digits-write-byte-requires-2 t c κs =
     let s = k .before .before .before .before in
     omega (arith, k .write-digits .ensures .few, k .write-digits .kept .0, tenth-fits (s .args .n) (s .args .at) _ (k .before .before .if1 .left) (s .pre .1))
 
--- src/lib.rt:34:1
 write-digits-same-length-2 : (t : ℕ) → write-digits-lts.Need-same-length-2 (
   write-byte-reads.Asked,
   write-byte-reads.Learnt,
@@ -130,7 +120,6 @@ write-digits-same-length-2 : (t : ℕ) → write-digits-lts.Need-same-length-2 (
 ) (write-digits-at t) write-digits.Post
 write-digits-same-length-2 t c = search needs
 
--- src/lib.rt:34:1
 write-digits-returns-2 : (t : ℕ) → write-digits-lts.Need-returns-2 (
   write-byte-reads.Asked,
   write-byte-reads.Learnt,

@@ -2,14 +2,10 @@
 use Rattle.text.proofs.Words.{kind-low, kind-high}
 use Rattle.text.proofs.kind.Statement.{statement}
 use Rattle.text.proofs.kind.Tie as tie
-use Rattle.text.proofs.kind.Reads as reads
-use Rattle.text.proofs.kind.Lts as lts
 
--- src/lib.rt:76:1
 returns : tie.Need-returns
 returns c = kind-low (c .before .args .word) (c .if1 .taken)
 
--- src/lib.rt:76:1
 returns-2 : tie.Need-returns-2
 returns-2 c = kind-high (c .before .args .word) (c .if1 .left)
 

@@ -5,21 +5,15 @@ use Rattle.text.specs.Text.{kindOf}
 use borrow.Author.Needs.{needs}
 use Rattle.text.proofs.one_of.Statement.{statement}
 use Rattle.text.proofs.one_of.Tie as tie
-use Rattle.text.proofs.one_of.Reads as reads
-use Rattle.text.proofs.one_of.Lts as lts
-use Rattle.text.proofs.kind.Reads as kind-reads
 
--- src/lib.rt:179:8
 kind-requires : tie.Need-kind-requires
 kind-requires c κs = search needs
 
--- src/lib.rt:176:1
 returns : tie.Need-returns
 returns c =
     let k = c .before in
     rw (eq-eqb (kindOf (k .before .args .word)) (k .before .args .k) (sym (k .kind .ensures) ∙ c .if1 .taken))
 
--- src/lib.rt:176:1
 returns-2 : tie.Need-returns-2
 returns-2 c =
     let k = c .before in

@@ -5,106 +5,79 @@ use Rattle.text.specs.Text.{rowOf}
 use borrow.Author.Needs.{needs}
 use Rattle.text.proofs.row_at.Statement.{statement}
 use Rattle.text.proofs.row_at.Tie as tie
-use Rattle.text.proofs.row_at.Reads as reads
-use Rattle.text.proofs.row_at.Lts as lts
 
--- src/lib.rt:143:14
 mul-at : tie.Need-mul-at
 mul-at c = search needs
 
--- src/lib.rt:145:20
 add-t5 : tie.Need-add-t5
 add-t5 c = search needs
 
--- src/lib.rt:145:15
 mul-t6 : tie.Need-mul-t6
 mul-t6 c = search needs
 
--- src/lib.rt:145:15
 shared-slice-read-t8 : tie.Need-shared-slice-read-t8
 shared-slice-read-t8 c = search needs
 
--- src/lib.rt:146:17
 add-t9 : tie.Need-add-t9
 add-t9 c = search needs
 
--- src/lib.rt:146:12
 mul-t10 : tie.Need-mul-t10
 mul-t10 c = search needs
 
--- src/lib.rt:146:12
 shared-slice-read-t12 : tie.Need-shared-slice-read-t12
 shared-slice-read-t12 c = search needs
 
--- src/lib.rt:147:17
 add-t13 : tie.Need-add-t13
 add-t13 c = search needs
 
--- src/lib.rt:147:12
 mul-t14 : tie.Need-mul-t14
 mul-t14 c = search needs
 
--- src/lib.rt:147:12
 shared-slice-read-t16 : tie.Need-shared-slice-read-t16
 shared-slice-read-t16 c = search needs
 
--- src/lib.rt:148:17
 add-t17 : tie.Need-add-t17
 add-t17 c = search needs
 
--- src/lib.rt:148:12
 mul-t18 : tie.Need-mul-t18
 mul-t18 c = search needs
 
--- src/lib.rt:148:12
 shared-slice-read-t20 : tie.Need-shared-slice-read-t20
 shared-slice-read-t20 c = search needs
 
--- src/lib.rt:149:22
 add-t21 : tie.Need-add-t21
 add-t21 c = search needs
 
--- src/lib.rt:149:17
 mul-t22 : tie.Need-mul-t22
 mul-t22 c = search needs
 
--- src/lib.rt:149:17
 shared-slice-read-t24 : tie.Need-shared-slice-read-t24
 shared-slice-read-t24 c = search needs
 
--- src/lib.rt:150:21
 add-t25 : tie.Need-add-t25
 add-t25 c = search needs
 
--- src/lib.rt:150:16
 mul-t26 : tie.Need-mul-t26
 mul-t26 c = search needs
 
--- src/lib.rt:150:16
 shared-slice-read-t28 : tie.Need-shared-slice-read-t28
 shared-slice-read-t28 c = search needs
 
--- src/lib.rt:151:22
 add-t29 : tie.Need-add-t29
 add-t29 c = search needs
 
--- src/lib.rt:151:17
 mul-t30 : tie.Need-mul-t30
 mul-t30 c = search needs
 
--- src/lib.rt:151:17
 shared-slice-read-t32 : tie.Need-shared-slice-read-t32
 shared-slice-read-t32 c = search needs
 
--- src/lib.rt:154:13
 mul-t5 : tie.Need-mul-t5
 mul-t5 c = search needs
 
--- src/lib.rt:154:13
 shared-slice-read-t32-2 : tie.Need-shared-slice-read-t32-2
 shared-slice-read-t32-2 c = search needs
 
--- src/lib.rt:139:1
 returns : tie.Need-returns
 unfolding rowOf
 returns c = simp (getD-drop, add-zero)

@@ -5,22 +5,16 @@ use native.Mathlib.Omega.{arith}
 use Rattle.text.proofs.Put.{put-one}
 use Rattle.text.proofs.write_byte.Statement.{statement}
 use Rattle.text.proofs.write_byte.Tie as tie
-use Rattle.text.proofs.write_byte.Reads as reads
-use Rattle.text.proofs.write_byte.Lts as lts
 
--- src/lib.rt:29:5
 slice-write-out : tie.Need-slice-write-out
 slice-write-out c = search needs
 
--- src/lib.rt:30:5
 add-result : tie.Need-add-result
 add-result c = search needs
 
--- src/lib.rt:25:1
 same-length : tie.Need-same-length
 same-length c = search needs
 
--- src/lib.rt:25:1
 returns : tie.Need-returns
 returns c =
     let a = c .args in

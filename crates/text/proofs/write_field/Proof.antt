@@ -5,24 +5,16 @@ use Rattle.text.proofs.Put.{then}
 use borrow.Author.Needs.{needs}
 use Rattle.text.proofs.write_field.Statement.{statement}
 use Rattle.text.proofs.write_field.Tie as tie
-use Rattle.text.proofs.write_field.Reads as reads
-use Rattle.text.proofs.write_field.Lts as lts
-use Rattle.text.proofs.write_byte.Reads as write-byte-reads
-use Rattle.text.proofs.write_number.Reads as write-number-reads
 
--- src/lib.rt:58:9
 write-byte-requires : tie.Need-write-byte-requires
 write-byte-requires c κs = search needs
 
--- src/lib.rt:59:5
 write-number-requires : tie.Need-write-number-requires
 write-number-requires c κs = search needs
 
--- src/lib.rt:54:1
 same-length : tie.Need-same-length
 same-length c = search needs
 
--- src/lib.rt:54:1
 returns : tie.Need-returns
 unfolding field
 returns c =

@@ -5,34 +5,22 @@ use Rattle.text.proofs.Put.{then, roomier}
 use borrow.Author.Needs.{needs}
 use Rattle.text.proofs.write_line.Statement.{statement}
 use Rattle.text.proofs.write_line.Tie as tie
-use Rattle.text.proofs.write_line.Reads as reads
-use Rattle.text.proofs.write_line.Lts as lts
-use Rattle.text.proofs.write_byte.Reads as write-byte-reads
-use Rattle.text.proofs.write_name.Reads as write-name-reads
-use Rattle.text.proofs.write_number.Reads as write-number-reads
-use Rattle.text.proofs.write_values.Reads as write-values-reads
 
--- src/lib.rt:132:9
 write-number-requires : tie.Need-write-number-requires
 write-number-requires c κs = search needs
 
--- src/lib.rt:133:9
 write-name-requires : tie.Need-write-name-requires
 write-name-requires c κs = search needs
 
--- src/lib.rt:134:9
 write-values-requires : tie.Need-write-values-requires
 write-values-requires c κs = search needs
 
--- src/lib.rt:135:5
 write-byte-requires : tie.Need-write-byte-requires
 write-byte-requires c κs = search needs
 
--- src/lib.rt:126:1
 same-length : tie.Need-same-length
 same-length c = search needs
 
--- src/lib.rt:126:1
 returns : tie.Need-returns
 unfolding line
 returns c =

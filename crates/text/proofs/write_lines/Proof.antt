@@ -5,10 +5,6 @@ use mathlib.Core.Path.{_≡_}
 use Rattle.text.proofs.Rows.{Lined, lined-none, lined-more, lined-all}
 use Rattle.text.proofs.write_lines.Statement.{statement}
 use Rattle.text.proofs.write_lines.Tie as tie
-use Rattle.text.proofs.write_lines.Reads as reads
-use Rattle.text.proofs.write_lines.Lts as lts
-use Rattle.text.proofs.row_at.Reads as row-at-reads
-use Rattle.text.proofs.write_line.Reads as write-line-reads
 
 abbrev Inv-loop : tie.InvT-loop
 Inv-loop told n out₀ at₀ i₀ out at i = Lined told out₀ n i at out
@@ -16,27 +12,21 @@ Inv-loop told n out₀ at₀ i₀ out at i = Lined told out₀ n i at out
 abbrev μ-loop : tie.MeasureT-loop
 μ-loop told n out₀ at₀ i₀ out at i = n - i
 
--- src/lib.rt:168:5
 loop-holds : tie.Need-loop-holds Inv-loop μ-loop
 loop-holds c = let a = c .before .before .args in lined-none (a .told .now) (a .out .now) (a .n)
 
--- src/lib.rt:169:34
 row-at-requires : tie.Need-row-at-requires Inv-loop μ-loop
 row-at-requires c κs = omega arith
 
--- src/lib.rt:169:9
 write-line-requires : tie.Need-write-line-requires Inv-loop μ-loop
 write-line-requires c κs = omega arith
 
--- src/lib.rt:170:9
 add-i : tie.Need-add-i Inv-loop μ-loop
 add-i c = omega arith
 
--- src/lib.rt:168:5
 loop-less : tie.Need-loop-less Inv-loop μ-loop
 loop-less c = omega arith
 
--- src/lib.rt:168:5
 loop-again : tie.Need-loop-again Inv-loop μ-loop
 loop-again c =
     let w = c .before .before in
@@ -46,11 +36,9 @@ loop-again c =
     let a = s .args in
     lined-more (a .told .now) (a .out .now) (a .n) (l .inv) (omega arith) (s .pre .1) (w .write-line .kept .0) (rw (r .row-at .ensures) at (w .write-line .ensures))
 
--- src/lib.rt:162:1
 same-length : tie.Need-same-length Inv-loop μ-loop
 same-length c = c .before .loop .inv .same
 
--- src/lib.rt:162:1
 returns : tie.Need-returns Inv-loop μ-loop
 returns c =
     let l = c .before .loop in

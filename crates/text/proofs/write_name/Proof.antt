@@ -7,118 +7,91 @@ use Rattle.text.proofs.Words.{named-other}
 use borrow.Author.Needs.{needs}
 use Rattle.text.proofs.write_name.Statement.{statement}
 use Rattle.text.proofs.write_name.Tie as tie
-use Rattle.text.proofs.write_name.Reads as reads
-use Rattle.text.proofs.write_name.Lts as lts
-use Rattle.text.proofs.write_text.Reads as write-text-reads
 
--- src/lib.rt:88:34
 slice-aggregate-write-text : tie.Need-slice-aggregate-write-text
 slice-aggregate-write-text c = search needs
 
--- src/lib.rt:88:14
 write-text-requires : tie.Need-write-text-requires
 write-text-requires c κs = search needs
 
--- src/lib.rt:89:34
 slice-aggregate-write-text-2 : tie.Need-slice-aggregate-write-text-2
 slice-aggregate-write-text-2 c = search needs
 
--- src/lib.rt:89:14
 write-text-requires-2 : tie.Need-write-text-requires-2
 write-text-requires-2 c κs = search needs
 
--- src/lib.rt:90:34
 slice-aggregate-write-text-3 : tie.Need-slice-aggregate-write-text-3
 slice-aggregate-write-text-3 c = search needs
 
--- src/lib.rt:90:14
 write-text-requires-3 : tie.Need-write-text-requires-3
 write-text-requires-3 c κs = search needs
 
--- src/lib.rt:91:34
 slice-aggregate-write-text-4 : tie.Need-slice-aggregate-write-text-4
 slice-aggregate-write-text-4 c = search needs
 
--- src/lib.rt:91:14
 write-text-requires-4 : tie.Need-write-text-requires-4
 write-text-requires-4 c κs = search needs
 
--- src/lib.rt:92:34
 slice-aggregate-write-text-5 : tie.Need-slice-aggregate-write-text-5
 slice-aggregate-write-text-5 c = search needs
 
--- src/lib.rt:92:14
 write-text-requires-5 : tie.Need-write-text-requires-5
 write-text-requires-5 c κs = search needs
 
--- src/lib.rt:93:34
 slice-aggregate-write-text-6 : tie.Need-slice-aggregate-write-text-6
 slice-aggregate-write-text-6 c = search needs
 
--- src/lib.rt:93:14
 write-text-requires-6 : tie.Need-write-text-requires-6
 write-text-requires-6 c κs = search needs
 
--- src/lib.rt:83:1
 same-length : tie.Need-same-length
 same-length c = search needs
 
--- src/lib.rt:83:1
 returns : tie.Need-returns
 unfolding named kindOf
 returns c =
     let e : c .before .before .before .before .before .before .before .args .word ≡ 1 = omega arith in
     rw e (roomier (c .before .before .write-text .ensures) (omega (arith, c .before .before .write-text .ensures .few)))
 
--- src/lib.rt:83:1
 same-length-2 : tie.Need-same-length-2
 same-length-2 c = search needs
 
--- src/lib.rt:83:1
 returns-2 : tie.Need-returns-2
 unfolding named kindOf
 returns-2 c =
     let e : c .before .before .before .before .before .before .before .args .word ≡ 2 = omega arith in
     rw e (roomier (c .before .before .write-text2 .ensures) (omega (arith, c .before .before .write-text2 .ensures .few)))
 
--- src/lib.rt:83:1
 same-length-3 : tie.Need-same-length-3
 same-length-3 c = search needs
 
--- src/lib.rt:83:1
 returns-3 : tie.Need-returns-3
 unfolding named kindOf
 returns-3 c =
     let e : c .before .before .before .before .before .before .before .args .word ≡ 3 = omega arith in
     rw e (roomier (c .before .before .write-text3 .ensures) (omega (arith, c .before .before .write-text3 .ensures .few)))
 
--- src/lib.rt:83:1
 same-length-4 : tie.Need-same-length-4
 same-length-4 c = search needs
 
--- src/lib.rt:83:1
 returns-4 : tie.Need-returns-4
 unfolding named kindOf
 returns-4 c =
     let e : c .before .before .before .before .before .before .before .args .word ≡ 4 = omega arith in
     rw e (roomier (c .before .before .write-text4 .ensures) (omega (arith, c .before .before .write-text4 .ensures .few)))
 
--- src/lib.rt:83:1
 same-length-5 : tie.Need-same-length-5
 same-length-5 c = search needs
 
--- src/lib.rt:83:1
 returns-5 : tie.Need-returns-5
 unfolding named kindOf
 returns-5 c =
     let e : c .before .before .before .before .before .before .before .args .word ≡ 5 = omega arith in
     rw e (roomier (c .before .before .write-text5 .ensures) (omega (arith, c .before .before .write-text5 .ensures .few)))
 
--- src/lib.rt:83:1
 same-length-6 : tie.Need-same-length-6
 same-length-6 c = search needs
 
--- src/lib.rt:83:1
 returns-6 : tie.Need-returns-6
 returns-6 c =
     let w = c .before .before .before .before .before .before .before .args .word in

@@ -5,19 +5,13 @@ use Rattle.text.proofs.Digits.{decimal-most}
 use borrow.Author.Needs.{needs}
 use Rattle.text.proofs.write_number.Statement.{statement}
 use Rattle.text.proofs.write_number.Tie as tie
-use Rattle.text.proofs.write_number.Reads as reads
-use Rattle.text.proofs.write_number.Lts as lts
-use Rattle.text.proofs.write_digits.Reads as write-digits-reads
 
--- src/lib.rt:50:5
 write-digits-requires : tie.Need-write-digits-requires
 write-digits-requires c κs = omega (arith, decimal-most (c .before .before .args .n) (omega arith))
 
--- src/lib.rt:46:1
 same-length : tie.Need-same-length
 same-length c = search needs
 
--- src/lib.rt:46:1
 returns : tie.Need-returns
 returns c =
     let w = c .before .before .write-digits in

@@ -5,39 +5,28 @@ use Rattle.text.proofs.Put.{then}
 use borrow.Author.Needs.{needs}
 use Rattle.text.proofs.write_tallies.Statement.{statement}
 use Rattle.text.proofs.write_tallies.Tie as tie
-use Rattle.text.proofs.write_tallies.Reads as reads
-use Rattle.text.proofs.write_tallies.Lts as lts
-use Rattle.text.proofs.write_tally.Reads as write-tally-reads
 
--- src/lib.rt:210:9
 write-tally-requires : tie.Need-write-tally-requires
 write-tally-requires c κs = search needs
 
--- src/lib.rt:211:9
 write-tally-requires-2 : tie.Need-write-tally-requires-2
 write-tally-requires-2 c κs = search needs
 
--- src/lib.rt:212:9
 write-tally-requires-3 : tie.Need-write-tally-requires-3
 write-tally-requires-3 c κs = search needs
 
--- src/lib.rt:213:9
 write-tally-requires-4 : tie.Need-write-tally-requires-4
 write-tally-requires-4 c κs = search needs
 
--- src/lib.rt:214:9
 write-tally-requires-5 : tie.Need-write-tally-requires-5
 write-tally-requires-5 c κs = search needs
 
--- src/lib.rt:215:5
 write-tally-requires-6 : tie.Need-write-tally-requires-6
 write-tally-requires-6 c κs = search needs
 
--- src/lib.rt:206:1
 same-length : tie.Need-same-length
 same-length c = search needs
 
--- src/lib.rt:206:1
 returns : tie.Need-returns
 unfolding tallies
 returns c =

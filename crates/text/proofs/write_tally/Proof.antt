@@ -5,29 +5,19 @@ use Rattle.text.proofs.Put.{then}
 use borrow.Author.Needs.{needs}
 use Rattle.text.proofs.write_tally.Statement.{statement}
 use Rattle.text.proofs.write_tally.Tie as tie
-use Rattle.text.proofs.write_tally.Reads as reads
-use Rattle.text.proofs.write_tally.Lts as lts
-use Rattle.text.proofs.count_word.Reads as count-word-reads
-use Rattle.text.proofs.write_field.Reads as write-field-reads
-use Rattle.text.proofs.write_name.Reads as write-name-reads
 
--- src/lib.rt:201:9
 write-name-requires : tie.Need-write-name-requires
 write-name-requires c κs = search needs
 
--- src/lib.rt:202:33
 count-word-requires : tie.Need-count-word-requires
 count-word-requires c κs = search needs
 
--- src/lib.rt:202:5
 write-field-requires : tie.Need-write-field-requires
 write-field-requires c κs = search needs
 
--- src/lib.rt:197:1
 same-length : tie.Need-same-length
 same-length c = search needs
 
--- src/lib.rt:197:1
 returns : tie.Need-returns
 unfolding tallied
 returns c =

@@ -6,38 +6,25 @@ use Rattle.text.proofs.Rows.{length-rows}
 use borrow.Author.Needs.{needs}
 use Rattle.text.proofs.write_total.Statement.{statement}
 use Rattle.text.proofs.write_total.Tie as tie
-use Rattle.text.proofs.write_total.Reads as reads
-use Rattle.text.proofs.write_total.Lts as lts
-use Rattle.text.proofs.write_byte.Reads as write-byte-reads
-use Rattle.text.proofs.write_field.Reads as write-field-reads
-use Rattle.text.proofs.write_tallies.Reads as write-tallies-reads
-use Rattle.text.proofs.write_text.Reads as write-text-reads
 
--- src/lib.rt:223:41
 slice-aggregate-write-text : tie.Need-slice-aggregate-write-text
 slice-aggregate-write-text c = search needs
 
--- src/lib.rt:223:9
 write-text-requires : tie.Need-write-text-requires
 write-text-requires c κs = search needs
 
--- src/lib.rt:224:9
 write-field-requires : tie.Need-write-field-requires
 write-field-requires c κs = search needs
 
--- src/lib.rt:225:9
 write-tallies-requires : tie.Need-write-tallies-requires
 write-tallies-requires c κs = search needs
 
--- src/lib.rt:226:5
 write-byte-requires : tie.Need-write-byte-requires
 write-byte-requires c κs = search needs
 
--- src/lib.rt:219:1
 same-length : tie.Need-same-length
 same-length c = search needs
 
--- src/lib.rt:219:1
 returns : tie.Need-returns
 unfolding total
 returns c =

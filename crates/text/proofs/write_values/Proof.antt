@@ -6,24 +6,16 @@ use Rattle.text.proofs.Words.{values-refused, values-answered}
 use borrow.Author.Needs.{needs}
 use Rattle.text.proofs.write_values.Statement.{statement}
 use Rattle.text.proofs.write_values.Tie as tie
-use Rattle.text.proofs.write_values.Reads as reads
-use Rattle.text.proofs.write_values.Lts as lts
-use Rattle.text.proofs.kind.Reads as kind-reads
-use Rattle.text.proofs.write_field.Reads as write-field-reads
 
--- src/lib.rt:115:8
 kind-requires : tie.Need-kind-requires
 kind-requires c κs = search needs
 
--- src/lib.rt:116:9
 write-field-requires : tie.Need-write-field-requires
 write-field-requires c κs = search needs
 
--- src/lib.rt:116:9
 same-length : tie.Need-same-length
 same-length c = search needs
 
--- src/lib.rt:116:9
 returns : tie.Need-returns
 returns c =
     let w = c .before .before in
@@ -32,31 +24,24 @@ returns c =
     let a = k .before .before .args in
     rw (← values-refused (a .answer) (sym (k .kind .ensures) ∙ j .if1 .taken)) (roomier (w .write-field .ensures) (omega (arith, w .write-field .ensures .few)))
 
--- src/lib.rt:118:9
 write-field-requires-2 : tie.Need-write-field-requires-2
 write-field-requires-2 c κs = search needs
 
--- src/lib.rt:119:9
 write-field-requires-3 : tie.Need-write-field-requires-3
 write-field-requires-3 c κs = search needs
 
--- src/lib.rt:120:9
 write-field-requires-4 : tie.Need-write-field-requires-4
 write-field-requires-4 c κs = search needs
 
--- src/lib.rt:121:9
 write-field-requires-5 : tie.Need-write-field-requires-5
 write-field-requires-5 c κs = search needs
 
--- src/lib.rt:122:5
 write-field-requires-6 : tie.Need-write-field-requires-6
 write-field-requires-6 c κs = search needs
 
--- src/lib.rt:111:1
 same-length-2 : tie.Need-same-length-2
 same-length-2 c = search needs
 
--- src/lib.rt:111:1
 returns-2 : tie.Need-returns-2
 returns-2 c =
     let w5 = c .before .before in
