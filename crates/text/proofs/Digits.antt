@@ -3,7 +3,7 @@
 --     decimal-most                  a number of 32 bits has ten at most
 -- Assumes nothing.
 use Prim.Native.Nat.{ℕ, zero, suc, _+_, _*_, _/_, _%_, _≤_, _<_}
-use mathlib.Core.Bool.{Bool, true, false, cond}
+use mathlib.Core.Bool.{Bool, true, false}
 use mathlib.Core.Path.{_≡_, refl, sym, ap, _∙_}
 use mathlib.Core.List.{List, [], _∷_, _++_}
 use mathlib.Core.Logic.{_⊎_, inl, inr, ⊎-elim}
@@ -13,7 +13,7 @@ use lib.ListN.{length, length-append}
 use borrow.Author.Tests.{lt-ltb, le-ltb, ltb-true, ltb-false}
 use Rattle.text.specs.Text.{digits, decimal}
 use Rattle.text.specs.Writers.{Wrote}
-use Rattle.text.proofs.Put.{then}
+use Rattle.text.proofs.Writing.{then}
 
 short : (k n : ℕ) → n < 10 → digits (suc k) n ≡ (48 + n) ∷ []
 unfolding digits
@@ -64,10 +64,18 @@ unfolding decimal
 decimal-most n h = most 9 (suc n) n (omega arith)
 
 -- the writer's two ways: one digit; the digits of a tenth and then the last one
-pub wrote-short : {n at next : ℕ} {s s′ : List ℕ} → n < 10 → Wrote 1 s at ((48 + n) ∷ []) s′ next → Wrote (length (decimal n)) s at (decimal n) s′ next
+pub wrote-short : {n at next : ℕ} {s s′ : List ℕ}
+    → n < 10
+    → Wrote 1 s at ((48 + n) ∷ []) s′ next
+    → Wrote (length (decimal n)) s at (decimal n) s′ next
 wrote-short {n} h w = rw (decimal-short n h) w
 
-pub wrote-long : {n at m next : ℕ} {s s₁ s′ : List ℕ} → 10 ≤ n → at + length (decimal n) ≤ length s → Wrote (length (decimal (n / 10))) s at (decimal (n / 10)) s₁ m → Wrote 1 s₁ m ((48 + n % 10) ∷ []) s′ next → Wrote (length (decimal n)) s at (decimal n) s′ next
+pub wrote-long : {n at m next : ℕ} {s s₁ s′ : List ℕ}
+    → 10 ≤ n
+    → at + length (decimal n) ≤ length s
+    → Wrote (length (decimal (n / 10))) s at (decimal (n / 10)) s₁ m
+    → Wrote 1 s₁ m ((48 + n % 10) ∷ []) s′ next
+    → Wrote (length (decimal n)) s at (decimal n) s′ next
 wrote-long {n} h room a b =
     let e : length (decimal n) ≡ length (decimal (n / 10)) + 1 = rw (decimal-long n h, length-append) in
     rw (e, decimal-long n h) (then a b (omega arith))

@@ -1,5 +1,5 @@
 -- Laws that the proofs cite.
-pub mod Put
+pub mod Writing
 pub mod Digits
 pub mod Words
 pub mod Rows

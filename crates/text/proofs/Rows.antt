@@ -14,7 +14,8 @@ use lib.Seq.{drop-drop, getD-drop}
 use Rattle.text.specs.declared.Row.{Row}
 use Rattle.text.specs.Text.{kindOf, line, lines, tally, rowOf, rows}
 use Rattle.text.specs.Writers.{Wrote}
-use Rattle.text.proofs.Put.{put-nil, then, roomier}
+use Rattle.text.proofs.Writing.{then, roomier}
+use Rattle.little.specs.Put.{put-nil}
 
 pub length-rows : (n : ℕ) (s : List ℕ) → length (rows n s) ≡ n
 unfolding rows
@@ -59,7 +60,13 @@ module _ (told out₀ : List ℕ) (n : ℕ) where
         rest = ap lines (left-all told n);
       }
 
-  pub lined-more : {i at at′ : ℕ} {out out′ : List ℕ} → Lined told out₀ n i at out → i < n → 80 * n ≤ length out₀ → length out′ ≡ length out → Wrote 80 out at (line (rowOf (drop (8 * i) told))) out′ at′ → Lined told out₀ n (i + 1) at′ out′
+  pub lined-more : {i at at′ : ℕ} {out out′ : List ℕ}
+      → Lined told out₀ n i at out
+      → i < n
+      → 80 * n ≤ length out₀
+      → length out′ ≡ length out
+      → Wrote 80 out at (line (rowOf (drop (8 * i) told))) out′ at′
+      → Lined told out₀ n (i + 1) at′ out′
   unfolding lines
   lined-more {i} l h room same w =
       let new = line (rowOf (drop (8 * i) told)) in
@@ -92,7 +99,11 @@ module _ (told : List ℕ) (n k : ℕ) where
   pub counted-none : Counted told n k 0 0
   counted-none = record { some = omega arith; few = omega arith; rest = omega (arith, ap (tally k) (left-all told n)) }
 
-  pub counted-more : {i sum one : ℕ} → Counted told n k i sum → i < n → one ≡ cond (eqb (kindOf (getD told (8 * i + 1) 0)) k) 1 0 → Counted told n k (i + 1) (sum + one)
+  pub counted-more : {i sum one : ℕ}
+      → Counted told n k i sum
+      → i < n
+      → one ≡ cond (eqb (kindOf (getD told (8 * i + 1) 0)) k) 1 0
+      → Counted told n k (i + 1) (sum + one)
   unfolding tally rowOf
   counted-more {i} {sum} {one} l h e =
       let first : one + tally k (left told n (i + 1)) ≡ tally k (left told n i) =

@@ -1,10 +1,9 @@
 -- Document 01's printed example, and that the definitions meet an answer's own numbers.
 use Prim.Native.Nat.{ℕ}
 use mathlib.Core.Path.{_≡_, refl}
-use mathlib.Core.List.{List, [], _∷_, _++_}
+use mathlib.Core.List.{List, [], _∷_}
 use Rattle.rules.specs.Answers.{told}
 use Rattle.rules.specs.declared.Answer.the-variants.{Met, Clear, Spent, Refused}
-use Rattle.text.specs.declared.Row.{Row}
 use Rattle.text.specs.Text.{ascii, digits, decimal, field, kindOf, named, values, line, lines, tally, tallied, tallies, total, fileText, refusedText, rowOf, rows}
 
 -- "records with ids 1 to 3, the first case, the CLEAR of count 10, and budget 4"

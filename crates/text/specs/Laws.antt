@@ -1,17 +1,20 @@
 -- What the definitions of the text promise.
 --     tallies-add-up   "the six tallies .. add up to it", the number of records
 --     read-back        a number's digits read back give the number, so no two numbers print alike
+--     printed-once     no second answer and no second buffer fits what a writer promises
 -- Assumes nothing.
 use Prim.Native.Nat.{ℕ, zero, suc, _+_, _-_, _*_, _/_, _%_, _≤_, _<_}
 use mathlib.Core.Bool.{Bool, true, false, cond}
-use mathlib.Core.Path.{_≡_, refl, ap, _∙_}
+use mathlib.Core.Path.{_≡_, refl, sym, _∙_}
 use mathlib.Core.List.{List, [], _∷_, _++_}
 use native.Mathlib.Omega.{arith}
 use lib.Dec.{ltb, leb, eqb}
 use lib.ListN.{length}
 use borrow.Author.Tests.{ltb-false, leb-true}
 use Rattle.text.specs.declared.Row.{Row}
+use Rattle.text.specs.declared.Written.{Written}
 use Rattle.text.specs.Text.{digits, decimal, kindOf, tally}
+use Rattle.text.specs.Writers.{Printed}
 
 few-if : (w : ℕ) (b : Bool) → leb w 5 ≡ b → cond b w 0 ≤ 5
 few-if w true e = leb-true w 5 e
@@ -61,3 +64,6 @@ read-digits (suc most) n h = read-step n (digits most (n / 10)) (ltb n 10) refl 
 pub read-back : (n : ℕ) → readOn 0 (decimal n) ≡ n
 unfolding decimal
 read-back n = read-digits (suc n) n (omega arith)
+
+pub printed-once : {room : Bool} {text before s s′ : List ℕ} {r r′ : Written} → Printed room text before s r → Printed room text before s′ r′ → (r ≡ r′) × (s ≡ s′)
+printed-once p q = (p .said ∙ sym (q .said), p .bytes ∙ sym (q .bytes))

@@ -2,15 +2,12 @@
 use Prim.Native.Nat.{ℕ, _+_, _*_, _≤_}
 use mathlib.Core.Path.{_≡_}
 use mathlib.Core.Bool.{Bool, true, false, _&&_}
-use mathlib.Core.List.{List, _++_}
+use mathlib.Core.List.{List}
 use lib.Dec.{leb}
-use lib.ListN.{length, take, drop}
+use lib.ListN.{length}
+use Rattle.rules.specs.QueryFile.{put}
 use Rattle.text.specs.declared.Written.{Written}
 use Rattle.text.specs.declared.Written.the-variants.{Text, Nothing}
-
--- the list with `vs` in the place of what stood from `at`
-unfoldable pub put : List ℕ → ℕ → List ℕ → List ℕ
-put s at vs = take at s ++ vs ++ drop (at + length vs) s
 
 -- `vs`, at most `most` bytes, now stands from `at` on, no other byte has changed, and `next` is the place behind it
 pub record Wrote (most : ℕ) (before : List ℕ) (at : ℕ) (vs after : List ℕ) (next : ℕ) : Type 0 where

@@ -2,10 +2,10 @@
 use borrow.Author.Needs.{needs}
 use native.Mathlib.Omega.{arith}
 use Prim.Native.Nat.{_+_, _-_, _*_}
-use mathlib.Core.Path.{_≡_, ap, _∙_}
+use mathlib.Core.Path.{_≡_}
 use lib.Dec.{eqb}
 use lib.ListN.{getD}
-use Rattle.text.specs.Text.{kindOf, tally, rows}
+use Rattle.text.specs.Text.{kindOf}
 use Rattle.text.proofs.Rows.{Counted, counted-none, counted-more, counted-all, at-most-one}
 use Rattle.text.proofs.count_word.Statement.{statement}
 use Rattle.text.proofs.count_word.Tie as tie

@@ -5,7 +5,7 @@ use lib.ListN.{length}
 use borrow.Author.Tests.{le-leb, lt-leb}
 use Rattle.text.specs.Text.{fileText}
 use Rattle.text.specs.Writers.{roomFor}
-use Rattle.text.proofs.Put.{then, printed, printed-not}
+use Rattle.text.proofs.Writing.{then, printed, printed-not}
 use borrow.Author.Needs.{needs}
 use Rattle.text.proofs.write_answers.Statement.{statement}
 use Rattle.text.proofs.write_answers.Tie as tie

@@ -1,7 +1,7 @@
 -- `text::write_line` meets its contract. Assumes nothing.
 use native.Mathlib.Omega.{arith}
 use Rattle.text.specs.Text.{line}
-use Rattle.text.proofs.Put.{then, roomier}
+use Rattle.text.proofs.Writing.{then, roomier}
 use borrow.Author.Needs.{needs}
 use Rattle.text.proofs.write_line.Statement.{statement}
 use Rattle.text.proofs.write_line.Tie as tie

@@ -2,7 +2,7 @@
 use native.Mathlib.Omega.{arith}
 use mathlib.Core.Path.{_≡_}
 use Rattle.text.specs.Text.{named, kindOf}
-use Rattle.text.proofs.Put.{roomier}
+use Rattle.text.proofs.Writing.{roomier}
 use Rattle.text.proofs.Words.{named-other}
 use borrow.Author.Needs.{needs}
 use Rattle.text.proofs.write_name.Statement.{statement}
@@ -95,7 +95,8 @@ same-length-6 c = search needs
 returns-6 : tie.Need-returns-6
 returns-6 c =
     let w = c .before .before .before .before .before .before .before .args .word in
-    rw (← named-other w (λ e. omega arith) (λ e. omega arith) (λ e. omega arith) (λ e. omega arith) (λ e. omega arith)) (roomier (c .before .before .write-text6 .ensures) (omega (arith, c .before .before .write-text6 .ensures .few)))
+    let no = named-other w (λ e. omega arith) (λ e. omega arith) (λ e. omega arith) (λ e. omega arith) (λ e. omega arith) in
+    rw (← no) (roomier (c .before .before .write-text6 .ensures) (omega (arith, c .before .before .write-text6 .ensures .few)))
 
 pub write-name-spec : {M : Type 1} → statement M
 write-name-spec =

@@ -1,6 +1,6 @@
 -- `text::write_number` meets its contract: a number of 32 bits has at most ten digits. Assumes nothing.
 use native.Mathlib.Omega.{arith}
-use Rattle.text.proofs.Put.{roomier}
+use Rattle.text.proofs.Writing.{roomier}
 use Rattle.text.proofs.Digits.{decimal-most}
 use borrow.Author.Needs.{needs}
 use Rattle.text.proofs.write_number.Statement.{statement}

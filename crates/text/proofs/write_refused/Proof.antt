@@ -4,7 +4,7 @@ use lib.ListN.{length}
 use borrow.Author.Tests.{le-leb, lt-leb}
 use Rattle.text.specs.Text.{refusedText}
 use Rattle.text.specs.Writers.{roomForRefusal}
-use Rattle.text.proofs.Put.{then, printed, printed-not}
+use Rattle.text.proofs.Writing.{then, printed, printed-not}
 use borrow.Author.Needs.{needs}
 use Rattle.text.proofs.write_refused.Statement.{statement}
 use Rattle.text.proofs.write_refused.Tie as tie

@@ -1,7 +1,7 @@
 -- `text::write_tally` meets its contract. Assumes nothing.
 use native.Mathlib.Omega.{arith}
 use Rattle.text.specs.Text.{tallied}
-use Rattle.text.proofs.Put.{then}
+use Rattle.text.proofs.Writing.{then}
 use borrow.Author.Needs.{needs}
 use Rattle.text.proofs.write_tally.Statement.{statement}
 use Rattle.text.proofs.write_tally.Tie as tie

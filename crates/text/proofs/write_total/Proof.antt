@@ -1,7 +1,7 @@
 -- `text::write_total` meets its contract. Assumes nothing.
 use native.Mathlib.Omega.{arith}
 use Rattle.text.specs.Text.{total}
-use Rattle.text.proofs.Put.{then, roomier}
+use Rattle.text.proofs.Writing.{then, roomier}
 use Rattle.text.proofs.Rows.{length-rows}
 use borrow.Author.Needs.{needs}
 use Rattle.text.proofs.write_total.Statement.{statement}

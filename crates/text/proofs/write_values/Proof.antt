@@ -1,7 +1,7 @@
 -- `text::write_values` meets its contract. Assumes nothing.
 use native.Mathlib.Omega.{arith}
 use mathlib.Core.Path.{sym, _∙_}
-use Rattle.text.proofs.Put.{then, roomier}
+use Rattle.text.proofs.Writing.{then, roomier}
 use Rattle.text.proofs.Words.{values-refused, values-answered}
 use borrow.Author.Needs.{needs}
 use Rattle.text.proofs.write_values.Statement.{statement}
