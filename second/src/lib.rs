@@ -1,5 +1,6 @@
 //! The second program: it shares no code with the proved one, so that the two can be compared.
 
+pub mod beside;
 pub mod file;
 pub mod gap;
 pub mod gen;
@@ -8,3 +9,4 @@ pub mod refusals;
 pub mod rng;
 pub mod search;
 pub mod text;
+pub mod told;

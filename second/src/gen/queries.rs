@@ -7,7 +7,8 @@ use super::tuned::brick;
 use crate::record::Record;
 use crate::refusals::MOST_WORDS;
 use crate::rng::Rng;
-use crate::search::{search, search_traced, Answer, Corner};
+use crate::search::{search, search_traced, Answer};
+use crate::told::told;
 
 /// The most boxes that a query may need.
 const CHEAP: u32 = 60;
@@ -21,7 +22,8 @@ pub fn queries(seed: u64, number: usize) -> String {
 fn line(rng: &mut Rng) -> String {
     let (words, mut record) = if rng.one_in(6) { refused_query(rng) } else { cheap_query(rng) };
     record.id = rng.pick(&[0, 1, 77, u32::MAX]);
-    let numbers = fields(words, &record).into_iter().chain(told(&search(&record, words)));
+    let answer = told(&search(&record, words)).map(i64::from);
+    let numbers = fields(words, &record).into_iter().chain(answer);
     let numbers: Vec<String> = numbers.map(|number| number.to_string()).collect();
     numbers.join(" ") + "\n"
 }
@@ -35,22 +37,6 @@ fn fields(words: usize, record: &Record) -> Vec<i64> {
     fields.extend(numbers.map(i64::from));
     fields.extend(coordinates.map(|coordinate| i64::from(*coordinate)));
     fields
-}
-
-/// Word, t, u, v, excess, count, number of the refusal.
-fn told(answer: &Answer) -> [i64; 7] {
-    let with_corner = |word: i64, corner: &Corner| {
-        let [t, u, v] = [corner.t, corner.u, corner.v].map(i64::from);
-        [word, t, u, v, corner.excess.into(), corner.count.into(), 0]
-    };
-    match answer {
-        Answer::Refused(refusal) => [0, 0, 0, 0, 0, 0, refusal.number().into()],
-        Answer::Met(corner) => with_corner(1, corner),
-        Answer::Clear { count } => [2, 0, 0, 0, 0, (*count).into(), 0],
-        Answer::Spent(corner) => with_corner(3, corner),
-        Answer::Room(corner) => with_corner(4, corner),
-        Answer::Floor(corner) => with_corner(5, corner),
-    }
 }
 
 /// Refusals 1 to 6, 7, or both.

@@ -1,0 +1,166 @@
+//! The library under test, called with dirty buffers of every length.
+
+use super::buffers::{After, Lent};
+use super::expected::{answered, Expected, TOLD};
+use super::tally::Tally;
+use super::{Case, LONG};
+use crate::rng::Rng;
+
+/// File, queue, told; a slice is a pointer and then a length.
+pub type Answers = unsafe extern "C" fn(*const u8, usize, *mut u64, usize, *mut u32, usize) -> u32;
+/// File, number of the record, queue, told.
+pub type OneAnswer =
+    unsafe extern "C" fn(*const u8, usize, usize, *mut u64, usize, *mut u32, usize) -> u32;
+/// File, count.
+pub type Count = unsafe extern "C" fn(*const u8, usize, *mut u32, usize) -> u32;
+
+/// The C functions under test.
+#[derive(Clone, Copy)]
+pub struct Library {
+    pub answer: OneAnswer,
+    pub answers: Answers,
+    pub count: Count,
+}
+
+impl Library {
+    pub fn answers(&self, file: &[u8], queue: &mut [u64], told: &mut [u32]) -> u32 {
+        let (words, lent) = (queue.len(), told.len());
+        // Sound: every pointer comes from a slice of the length beside it.
+        unsafe {
+            let (queue, told) = (queue.as_mut_ptr(), told.as_mut_ptr());
+            (self.answers)(file.as_ptr(), file.len(), queue, words, told, lent)
+        }
+    }
+
+    pub fn answer(&self, file: &[u8], n: usize, queue: &mut [u64], told: &mut [u32]) -> u32 {
+        let (words, lent) = (queue.len(), told.len());
+        // Sound: as above.
+        unsafe {
+            let (queue, told) = (queue.as_mut_ptr(), told.as_mut_ptr());
+            (self.answer)(file.as_ptr(), file.len(), n, queue, words, told, lent)
+        }
+    }
+
+    pub fn count(&self, file: &[u8], count: &mut [u32]) -> u32 {
+        // Sound: as above.
+        unsafe { (self.count)(file.as_ptr(), file.len(), count.as_mut_ptr(), count.len()) }
+    }
+}
+
+/// The calls of one case.
+pub struct Caller<'a> {
+    library: &'a Library,
+    case: &'a Case,
+    tally: &'a mut Tally,
+    rng: Rng,
+    pub differences: Vec<String>,
+}
+
+impl<'a> Caller<'a> {
+    pub fn new(library: &'a Library, case: &'a Case, tally: &'a mut Tally) -> Caller<'a> {
+        let rng = Rng::new(case.seed, "calls");
+        Caller { library, case, tally, rng, differences: Vec::new() }
+    }
+
+    /// The whole file: room enough, some room beyond it, and one word too few.
+    pub fn answers(&mut self, words: usize, expected: &Expected) {
+        let exact = TOLD * expected.count();
+        let beyond = self.rng.pick(&[0, 0, 1, 7, 8, 100]);
+        self.all(words, exact + beyond, expected);
+        if exact > 0 && words <= LONG {
+            let any = self.rng.below(exact);
+            let short = self.rng.pick(&[exact - 1, any]);
+            self.all(words, short, expected);
+        }
+    }
+
+    fn all(&mut self, words: usize, lent: usize, expected: &Expected) {
+        let call = format!("taperhive_answers, {words} words, told of {lent}");
+        let (mut queue, mut told) = self.lend(words, lent);
+        let code = self.library.answers(&self.case.file, queue.slice(), told.slice());
+        let must = expected.all(lent);
+        let flat = must.as_ref().map(|records| records.concat()).map_err(|number| *number);
+        let any = must.as_ref().is_ok_and(|records| records.iter().any(answered));
+        if let Ok(records) = &must {
+            records.iter().for_each(|told| self.tally.told(told));
+        }
+        self.judge(&call, code, &flat, any, &queue, &told);
+    }
+
+    /// Some records by themselves, and numbers of records that are not there.
+    pub fn single_answers(&mut self, words: usize, expected: &Expected) {
+        let count = expected.count();
+        let some = if words > LONG { 1 } else { 3 };
+        for _ in 0..some.min(count) {
+            let n = self.rng.below(count);
+            let lent = TOLD + self.rng.pick(&[0, 0, 1, 8]);
+            self.one(n, words, lent, expected);
+        }
+        if words <= LONG {
+            let absent = self.rng.pick(&[count, count + 1, 4096, 1 << 32, 1 << 57, usize::MAX]);
+            let lent = self.rng.below(10);
+            self.one(absent, words, lent, expected);
+            let (any, short) = (self.rng.below(count + 1), self.rng.below(TOLD));
+            self.one(any, words, short, expected);
+        }
+    }
+
+    fn one(&mut self, n: usize, words: usize, lent: usize, expected: &Expected) {
+        let call = format!("taperhive_answer, record {n}, {words} words, told of {lent}");
+        let (mut queue, mut told) = self.lend(words, lent);
+        let code = self.library.answer(&self.case.file, n, queue.slice(), told.slice());
+        let must = expected.one(n, lent);
+        if let Ok(told) = &must {
+            self.tally.told(told);
+        }
+        let any = must.as_ref().is_ok_and(answered);
+        self.judge(&call, code, &must.map(Vec::from), any, &queue, &told);
+    }
+
+    /// How many records the file has, with room for that number and with none.
+    pub fn count(&mut self) {
+        let expected = Expected::of(&self.case.file, 0);
+        for lent in [1, 2, 0] {
+            let mut count: Lent<u32> = Lent::new(self.rng.draw(), lent);
+            let code = self.library.count(&self.case.file, count.slice());
+            let number = [expected.count() as u32];
+            let must = match expected.records {
+                Err(number) => Err(number),
+                Ok(_) if lent == 0 => Err(super::expected::SPACE),
+                Ok(_) => Ok(number.to_vec()),
+            };
+            let queue: Lent<u64> = Lent::new(0, 0);
+            let call = format!("taperhive_count, room for {lent}");
+            self.judge(&call, code, &must, false, &queue, &count);
+        }
+    }
+
+    fn lend(&mut self, words: usize, lent: usize) -> (Lent<u64>, Lent<u32>) {
+        (Lent::new(self.rng.draw(), words), Lent::new(self.rng.draw(), lent))
+    }
+
+    /// The code, every word of told, every word of the queue.
+    fn judge(
+        &mut self,
+        call: &str,
+        code: u32,
+        must: &Result<Vec<u32>, u32>,
+        answered: bool,
+        queue: &Lent<u64>,
+        told: &Lent<u32>,
+    ) {
+        self.tally.call(must.as_ref().err().copied());
+        let number = must.as_ref().err().copied().unwrap_or(0);
+        if code != number {
+            self.differences.push(format!("{call}: returned {code} and must return {number}"));
+        }
+        let told_after = must.as_ref().map_or(After::AsFound, |words| After::Begins(words));
+        if let Some(difference) = told.difference(&told_after) {
+            self.differences.push(format!("{call}: told's {difference}"));
+        }
+        let queue_after = if answered { After::Zero } else { After::AsFound };
+        if let Some(difference) = queue.difference(&queue_after) {
+            self.differences.push(format!("{call}: the queue's {difference}"));
+        }
+    }
+}

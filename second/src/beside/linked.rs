@@ -1,0 +1,28 @@
+//! The proved library, linked in as an object.
+
+use super::Library;
+
+extern "C" {
+    fn taperhive_answer(
+        file: *const u8,
+        file_len: usize,
+        n: usize,
+        queue: *mut u64,
+        queue_len: usize,
+        told: *mut u32,
+        told_len: usize,
+    ) -> u32;
+    fn taperhive_answers(
+        file: *const u8,
+        file_len: usize,
+        queue: *mut u64,
+        queue_len: usize,
+        told: *mut u32,
+        told_len: usize,
+    ) -> u32;
+    fn taperhive_count(file: *const u8, file_len: usize, count: *mut u32, count_len: usize) -> u32;
+}
+
+pub fn library() -> Library {
+    Library { answer: taperhive_answer, answers: taperhive_answers, count: taperhive_count }
+}

@@ -1,0 +1,72 @@
+//! The comparison with the proved code. The second program uses nothing of it.
+
+mod buffers;
+mod expected;
+mod library;
+#[cfg(feature = "beside")]
+pub mod linked;
+pub mod process;
+pub mod report;
+pub mod tally;
+pub mod walk;
+
+pub use expected::Expected;
+pub use library::Library;
+
+use crate::gen::{flavours, generate, words::words};
+use crate::rng::Rng;
+use library::Caller;
+use tally::Tally;
+
+/// A queue longer than this is tried on few files: filling and looking at it takes long.
+const LONG: usize = 65_536;
+/// The most queue lengths for a file of more records than this.
+const CROWD: usize = 600;
+
+/// A generated file and the queue lengths to try on it.
+pub struct Case {
+    pub seed: u64,
+    pub flavour: &'static str,
+    pub file: Vec<u8>,
+    pub words: Vec<usize>,
+}
+
+impl Case {
+    /// Nothing where there is no such flavour.
+    pub fn new(seed: u64, flavour: &str) -> Option<Case> {
+        let flavour = flavours().into_iter().find(|name| *name == flavour)?;
+        let (file, words) = (generate(seed, flavour)?, words(seed, flavour)?);
+        let mut case = Case { seed, flavour, file, words };
+        case.thin_out();
+        Some(case)
+    }
+
+    /// Keeps a crowd's lengths few, and the longest to one file in four.
+    fn thin_out(&mut self) {
+        let mut rng = Rng::new(self.seed, self.flavour);
+        if !rng.one_in(4) {
+            self.words.retain(|words| *words <= LONG);
+        }
+        while self.file.len() > CROWD * 116 && self.words.len() > 5 {
+            self.words.remove(rng.below(self.words.len()));
+        }
+    }
+}
+
+/// Puts one case through the library; what differs, a line each.
+pub fn compare(library: &Library, case: &Case, tally: &mut Tally) -> Vec<String> {
+    let mut caller = Caller::new(library, case, tally);
+    caller.count();
+    let mut last: Option<Expected> = None;
+    for words in &case.words {
+        // Equal halves have equal answers, so that one search by the second program serves both.
+        let expected = match last {
+            Some(last) if last.serves(*words) => last,
+            _ => Expected::of(&case.file, *words),
+        };
+        caller.answers(*words, &expected);
+        caller.single_answers(*words, &expected);
+        last = Some(expected);
+    }
+    caller.differences
+}

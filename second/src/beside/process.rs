@@ -1,0 +1,45 @@
+//! `sweep` as a program of its own, against what the second program prints.
+
+use super::tally::Tally;
+use super::Case;
+use crate::text::{sweep, SWEEP_WORDS};
+use std::io::Write;
+use std::process::{Command, Stdio};
+
+/// What differs between the program's output and the second program's text, a line each.
+pub fn compare(program: &[String], case: &Case, tally: &mut Tally) -> Vec<String> {
+    let must = sweep(&case.file, SWEEP_WORDS);
+    tally.text(&must);
+    match output(program, &case.file) {
+        Err(fault) => vec![format!("sweep: {fault}")],
+        Ok(text) if text == must => Vec::new(),
+        Ok(text) => vec![first_difference(&text, &must)],
+    }
+}
+
+/// What the program prints, if it ends well.
+fn output(program: &[String], input: &[u8]) -> Result<String, String> {
+    let mut child = Command::new(&program[0])
+        .args(&program[1..])
+        .stdin(Stdio::piped())
+        .stdout(Stdio::piped())
+        .spawn()
+        .map_err(|fault| format!("{} does not start: {fault}", program[0]))?;
+    let mut stdin = child.stdin.take().expect("standard input is piped");
+    let output = std::thread::scope(|scope| {
+        // A program that has read enough may close its end, which is no fault.
+        scope.spawn(move || stdin.write_all(input));
+        child.wait_with_output()
+    });
+    let output = output.map_err(|fault| fault.to_string())?;
+    if !output.status.success() {
+        return Err(format!("ended with {}", output.status));
+    }
+    Ok(String::from_utf8_lossy(&output.stdout).into_owned())
+}
+
+fn first_difference(text: &str, must: &str) -> String {
+    let place = text.lines().zip(must.lines()).take_while(|(is, must)| is == must).count();
+    let line = |text: &str| text.lines().nth(place).unwrap_or("(nothing)").to_string();
+    format!("sweep: line {place} is '{}' and must be '{}'", line(text), line(must))
+}

@@ -1,0 +1,77 @@
+//! What a comparison has gone through.
+
+use super::expected::TOLD;
+use std::fmt;
+
+const WORDS: [&str; 6] = ["REFUSED", "MET", "CLEAR", "SPENT", "ROOM", "FLOOR"];
+
+#[derive(Clone, Debug, Default)]
+pub struct Tally {
+    pub files: u64,
+    pub differing: u64,
+    calls: u64,
+    queries: u64,
+    boxes: u64,
+    /// Answers by word, refused records first.
+    words: [u64; 6],
+    /// Refusals by number: 1 to 7 of records, 8 to 15 of calls and programs.
+    refusals: [u64; 16],
+}
+
+impl Tally {
+    /// A file compared, and whether anything differed.
+    pub fn file(&mut self, differs: bool) {
+        self.files += 1;
+        self.differing += u64::from(differs);
+    }
+
+    /// A call, and the number that refuses it.
+    pub fn call(&mut self, refusal: Option<u32>) {
+        self.calls += 1;
+        if let Some(number) = refusal {
+            self.refusals[number as usize] += 1;
+        }
+    }
+
+    /// What must be told of a record.
+    pub fn told(&mut self, told: &[u32; TOLD]) {
+        self.queries += 1;
+        self.boxes += u64::from(told[6]);
+        self.words[told[1] as usize] += 1;
+        if told[1] == 0 {
+            self.refusals[told[7] as usize] += 1;
+        }
+    }
+
+    /// What `sweep` must print of a file.
+    pub fn text(&mut self, text: &str) {
+        let mut refusal = None;
+        for line in text.lines() {
+            let fields: Vec<&str> = line.split(' ').collect();
+            let last: u32 = fields[fields.len() - 1].parse().expect("a line ends in a number");
+            let word = WORDS.iter().position(|word| *word == fields[1]).unwrap_or(0) as u32;
+            match fields[..] {
+                ["FILE", _] => refusal = Some(last),
+                ["TOTAL", ..] => {}
+                [_, "REFUSED", _] => self.told(&[0, 0, 0, 0, 0, 0, 0, last]),
+                _ => self.told(&[0, word, 0, 0, 0, 0, last, 0]),
+            }
+        }
+        self.call(refusal);
+    }
+}
+
+impl fmt::Display for Tally {
+    fn fmt(&self, f: &mut fmt::Formatter) -> fmt::Result {
+        let Tally { files, differing, calls, queries, boxes, .. } = self;
+        write!(f, "{files} files, {calls} calls, {queries} queries, {boxes} boxes;")?;
+        for (name, number) in WORDS.iter().zip(self.words) {
+            write!(f, " {name} {number}")?;
+        }
+        write!(f, "; refusals by number")?;
+        for (n, number) in self.refusals.iter().enumerate().filter(|(_, number)| **number > 0) {
+            write!(f, " {n}: {number}")?;
+        }
+        write!(f, "; {differing} files differ")
+    }
+}

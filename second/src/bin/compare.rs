@@ -1,0 +1,36 @@
+//! Compares the proved library and `sweep` with the second program.
+
+use second::beside::{linked, walk::Walk, Case};
+use std::path::PathBuf;
+use std::process::ExitCode;
+use std::time::Duration;
+
+const USAGE: &str = "\
+usage: compare SECONDS SEED PROGRAM..           from a seed on, for so long
+       compare --only SEED FLAVOUR PROGRAM..    one file; PROGRAM.. is sweep as it is called";
+
+fn main() -> ExitCode {
+    let arguments: Vec<String> = std::env::args().skip(1).collect();
+    match run(&arguments) {
+        Some(true) => ExitCode::SUCCESS,
+        Some(false) => ExitCode::FAILURE,
+        None => {
+            eprintln!("{USAGE}");
+            ExitCode::from(2)
+        }
+    }
+}
+
+/// True where nothing differed; nothing where the arguments say nothing known.
+fn run(arguments: &[String]) -> Option<bool> {
+    let only = arguments.first()? == "--only";
+    let (numbers, program) = arguments.split_at_checked(if only { 3 } else { 2 })?;
+    program.first()?;
+    let folder = PathBuf::from("target/differences");
+    let walk = Walk { library: linked::library(), program, folder };
+    if only {
+        return Some(walk.only(&Case::new(numbers[1].parse().ok()?, &numbers[2])?));
+    }
+    let time = Duration::from_secs(numbers[0].parse().ok()?);
+    Some(walk.run(numbers[1].parse().ok()?, time))
+}

@@ -1,0 +1,117 @@
+//! The comparison itself: a right library passes, every wrong one is reported.
+
+mod stub;
+
+use second::beside::{compare, process, report, tally::Tally, walk::Walk, Case};
+use second::gen::flavours;
+use std::fs;
+use std::path::PathBuf;
+use stub::{library, Fault, FAULTS};
+
+const SEEDS: std::ops::Range<u64> = 1..3;
+
+/// The flavours whose files are quick.
+fn cases() -> Vec<Case> {
+    let quick = flavours().into_iter().filter(|name| !["many", "queue"].contains(name));
+    let quick: Vec<&str> = quick.collect();
+    SEEDS.flat_map(|seed| quick.iter().map(move |name| Case::new(seed, name).unwrap())).collect()
+}
+
+/// True where some case differs.
+fn reported<const N: usize>(cases: &[Case]) -> bool {
+    let mut tally = Tally::default();
+    cases.iter().any(|case| !compare(&library::<N>(), case, &mut tally).is_empty())
+}
+
+#[test]
+fn right_library_passes_and_wrong_ones_are_reported() {
+    let cases = cases();
+    let found = [
+        reported::<0>(&cases),
+        reported::<1>(&cases),
+        reported::<2>(&cases),
+        reported::<3>(&cases),
+        reported::<4>(&cases),
+        reported::<5>(&cases),
+        reported::<6>(&cases),
+        reported::<7>(&cases),
+        reported::<8>(&cases),
+        reported::<9>(&cases),
+        reported::<10>(&cases),
+        reported::<11>(&cases),
+        reported::<12>(&cases),
+        reported::<13>(&cases),
+    ];
+    for (fault, reported) in FAULTS.iter().zip(found) {
+        assert_eq!(reported, *fault != Fault::None, "{fault:?}");
+    }
+}
+
+#[test]
+fn tally_counts_what_was_compared() {
+    let mut tally = Tally::default();
+    let case = Case::new(1, "refusals").unwrap();
+    assert_eq!(compare(&library::<0>(), &case, &mut tally), Vec::<String>::new());
+    let text = tally.to_string();
+    for number in 1..=7 {
+        assert!(text.contains(&format!(" {number}: ")), "{text}");
+    }
+    assert!(text.contains(" 13: ") && text.contains(" 14: "), "{text}");
+}
+
+/// The second program as a program, called so.
+fn program(arguments: &[&str]) -> Vec<String> {
+    let own = env!("CARGO_BIN_EXE_second");
+    std::iter::once(own).chain(arguments.iter().copied()).map(str::to_string).collect()
+}
+
+#[test]
+fn programs_are_compared_by_their_text() {
+    let mut tally = Tally::default();
+    let mut differences = |arguments: &[&str], flavour| {
+        let case = Case::new(2, flavour).unwrap();
+        process::compare(&program(arguments), &case, &mut tally).len()
+    };
+    for flavour in flavours() {
+        assert_eq!(differences(&["sweep"], flavour), 0);
+    }
+    assert_eq!(differences(&["sweep", "4"], "queue"), 1);
+    assert_eq!(differences(&["flavours"], "tiny"), 1);
+    // Ends with a status other than 0.
+    assert_eq!(differences(&["none"], "tiny"), 1);
+    let absent = Case::new(2, "tiny").unwrap();
+    assert_eq!(process::compare(&["./none".to_string()], &absent, &mut tally).len(), 1);
+}
+
+/// A folder of its own for a test's files.
+fn folder(name: &str) -> PathBuf {
+    std::env::temp_dir().join(format!("taperhive-{name}-{}", std::process::id()))
+}
+
+#[test]
+fn differences_are_kept_and_fail_the_verdict() {
+    let folder = folder("kept");
+    let sweep = program(&["sweep"]);
+    let case = Case::new(3, "tiny").unwrap();
+    let walk = |library| Walk { library, program: &sweep, folder: folder.clone() };
+    assert!(walk(library::<0>()).only(&case));
+    assert!(!folder.exists());
+    assert!(!walk(library::<1>()).only(&case));
+    assert_eq!(fs::read(folder.join("compare-3-tiny.queries")).unwrap(), case.file);
+    let text = fs::read_to_string(folder.join("compare-3-tiny.txt")).unwrap();
+    assert!(text.contains("seed 3, flavour tiny, words [0, 1, 2, 3,"), "{text}");
+    assert!(text.contains("taperhive_answers, "), "{text}");
+    assert!(text.contains("again: tools/compare --only 3 tiny\n"), "{text}");
+    fs::remove_dir_all(folder).unwrap();
+}
+
+#[test]
+fn only_some_lines_of_many_are_kept() {
+    let folder = folder("many");
+    let case = Case::new(1, "empty").unwrap();
+    let many: Vec<String> = (0..1000).map(|n| format!("difference {n}")).collect();
+    report::keep(&folder, &case, &many).unwrap();
+    let text = fs::read_to_string(folder.join("compare-1-empty.txt")).unwrap();
+    assert!(text.contains("difference 19\n1000 differences\n"), "{text}");
+    fs::remove_dir_all(folder).unwrap();
+}

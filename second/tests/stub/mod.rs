@@ -1,0 +1,168 @@
+//! A library with the proved one's functions, made from the second program, right or with one fault.
+
+use second::beside::Library;
+use second::file::{open, record_at};
+use second::search::search;
+use second::told::told;
+use std::slice::{from_raw_parts, from_raw_parts_mut};
+
+#[derive(Clone, Copy, Debug, PartialEq, Eq)]
+pub enum Fault {
+    None,
+    CountOneMore,
+    ExcessOneLess,
+    LastWordLeft,
+    ClearedThoughRefused,
+    BeyondTold,
+    BeyondQueue,
+    WrittenThoughShort,
+    WrongNumber,
+    StopsAtRefused,
+    IndexCutTo32Bits,
+    SpaceBeforeIndex,
+    IdOfTheFirst,
+    CountUnwritten,
+}
+
+pub const FAULTS: [Fault; 14] = [
+    Fault::None,
+    Fault::CountOneMore,
+    Fault::ExcessOneLess,
+    Fault::LastWordLeft,
+    Fault::ClearedThoughRefused,
+    Fault::BeyondTold,
+    Fault::BeyondQueue,
+    Fault::WrittenThoughShort,
+    Fault::WrongNumber,
+    Fault::StopsAtRefused,
+    Fault::IndexCutTo32Bits,
+    Fault::SpaceBeforeIndex,
+    Fault::IdOfTheFirst,
+    Fault::CountUnwritten,
+];
+
+/// The library with fault number N of the list.
+pub fn library<const N: usize>() -> Library {
+    Library { answer: answer::<N>, answers: answers::<N>, count: count::<N> }
+}
+
+/// The eight numbers of record n, with the fault.
+fn record(fault: Fault, file: &[u8], n: u32, words: usize) -> [u32; 8] {
+    let record = record_at(file, n).unwrap();
+    let mut numbers = [record.id; 8];
+    numbers[1..].copy_from_slice(&told(&search(&record, words)));
+    match fault {
+        Fault::CountOneMore if numbers[6] > 5 => numbers[6] += 1,
+        Fault::ExcessOneLess if numbers[5] > 1 => numbers[5] -= 1,
+        Fault::IdOfTheFirst => numbers[0] = record_at(file, 0).unwrap().id,
+        _ => {}
+    }
+    numbers
+}
+
+fn number(fault: Fault, number: u32) -> u32 {
+    if fault == Fault::WrongNumber && number == 12 {
+        return 11;
+    }
+    number
+}
+
+/// Clears the queue as an answered record leaves it, with the fault.
+fn clear(fault: Fault, queue: *mut u64, words: usize, any: bool) {
+    let lent = unsafe { from_raw_parts_mut(queue, words) };
+    if any || fault == Fault::ClearedThoughRefused {
+        let left = usize::from(fault == Fault::LastWordLeft && words % 2 == 1);
+        lent[..words - left].fill(0);
+    }
+    if any && fault == Fault::BeyondQueue {
+        // Inside the words that stand around every lent buffer.
+        unsafe { *queue.add(words) = 0 };
+    }
+}
+
+unsafe extern "C" fn answers<const N: usize>(
+    file: *const u8,
+    file_len: usize,
+    queue: *mut u64,
+    words: usize,
+    told: *mut u32,
+    lent: usize,
+) -> u32 {
+    let (fault, file) = (FAULTS[N], from_raw_parts(file, file_len));
+    let told = from_raw_parts_mut(told, lent);
+    let opened = match open(file) {
+        Ok(opened) => opened,
+        Err(refusal) => return number(fault, refusal.number()),
+    };
+    if lent < 8 * opened.count as usize {
+        if fault == Fault::WrittenThoughShort && lent > 0 {
+            told[0] = 0;
+        }
+        return 14;
+    }
+    let mut any = false;
+    for n in 0..opened.count {
+        let numbers = record(fault, file, n, words);
+        let at = 8 * n as usize;
+        told[at..at + 8].copy_from_slice(&numbers);
+        any |= numbers[1] != 0;
+        if fault == Fault::StopsAtRefused && numbers[1] == 0 {
+            break;
+        }
+    }
+    let beyond = 8 * opened.count as usize;
+    if fault == Fault::BeyondTold && beyond < lent {
+        told[beyond] = 0;
+    }
+    clear(fault, queue, words, any);
+    0
+}
+
+unsafe extern "C" fn answer<const N: usize>(
+    file: *const u8,
+    file_len: usize,
+    n: usize,
+    queue: *mut u64,
+    words: usize,
+    told: *mut u32,
+    lent: usize,
+) -> u32 {
+    let (fault, file) = (FAULTS[N], from_raw_parts(file, file_len));
+    let opened = match open(file) {
+        Ok(opened) => opened,
+        Err(refusal) => return number(fault, refusal.number()),
+    };
+    let n = if fault == Fault::IndexCutTo32Bits { n as u32 as usize } else { n };
+    if fault == Fault::SpaceBeforeIndex && lent < 8 {
+        return 14;
+    }
+    if n >= opened.count as usize {
+        return 13;
+    }
+    if lent < 8 {
+        return 14;
+    }
+    let numbers = record(fault, file, n as u32, words);
+    from_raw_parts_mut(told, lent)[..8].copy_from_slice(&numbers);
+    clear(fault, queue, words, numbers[1] != 0);
+    0
+}
+
+unsafe extern "C" fn count<const N: usize>(
+    file: *const u8,
+    file_len: usize,
+    count: *mut u32,
+    lent: usize,
+) -> u32 {
+    let fault = FAULTS[N];
+    match open(from_raw_parts(file, file_len)) {
+        Err(refusal) => number(fault, refusal.number()),
+        Ok(_) if lent == 0 => 14,
+        Ok(opened) => {
+            if fault != Fault::CountUnwritten {
+                *count = opened.count;
+            }
+            0
+        }
+    }
+}
