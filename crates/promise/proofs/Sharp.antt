@@ -14,7 +14,7 @@ use Rattle.rules.specs.Answers.{told}
 use Rattle.rules.specs.Gap.{X, Y, Z, Place, OnBodies, Contact, moving, vertexFace, edgeEdge, gapOn, negateFrom, sided}
 use Rattle.rules.specs.Refusals.{first, every, searchRefusal}
 use Rattle.rules.specs.Search.{search, run, levels, afterLevel, ifRoom, halves, merge, takeIn, notAfter, those, inside, split, winner, spread, check, oneBox, near, firstSurvivor, corner, excess, width, survives, least, greatest, overCorners, unless}
-use Rattle.rules.specs.Berth.{asked, point, still, below-flag, T as face, P-T}
+use Rattle.rules.specs.Berth.{asked, point, still, below-flag, falling, T as face, P-T}
 use Rattle.promise.specs.Promise.{hasMoment, answered, Within, Promised}
 
 abbrev at : ℕ → ℕ → ℕ → ℕ → Place
@@ -46,7 +46,7 @@ not-always-met e n p = omega (arith, p .there tt .1 Z, p .within-tolerance refl)
 
 -- ---- no more
 
--- three berth examples: the excess is the tolerance; the point touches the face from the start; the point lies beside the face
+-- four berth examples: the excess is the tolerance; the point touches the face from the start; it lies beside the face; it ends a unit too far from it
 abbrev narrow : Record
 narrow = asked 1 0 0 1000 1000 P-T
 
@@ -56,9 +56,12 @@ touching = asked 1 1 0 999 1000 below-flag
 abbrev beside : Record
 beside = asked 1 0 0 16 1000 (still (point (pos 150) (pos 150) (pos 0) ++ face))
 
-rows : (Met 0 0 0 1000 2 ≡ search narrow 4096) × (Met 0 0 0 0 1 ≡ search touching 4096) × (Clear 10 ≡ search beside 4096)
+abbrev short : Record
+short = asked 1 0 199 999 1000 (falling (pos 200))
+
+rows : (Met 0 0 0 1000 2 ≡ search narrow 4096) × (Met 0 0 0 0 1 ≡ search touching 4096) × (Clear 10 ≡ search beside 4096) × (Clear 1 ≡ search short 4096)
 unfolding search run levels afterLevel ifRoom halves merge takeIn notAfter those inside split winner spread check oneBox near firstSurvivor corner excess width survives least greatest overCorners unless first every searchRefusal moving vertexFace edgeEdge gapOn negateFrom sided
-rows = (refl, refl, refl)
+rows = (refl, refl, refl, refl)
 
 -- what would be promised of every answer of the search
 abbrev pub OfEvery : (Record → Told → Type 0) → Type 0
@@ -76,6 +79,19 @@ not-strictly-earlier f = omega (arith, f touching 4096 (Met 0 0 0 0 1) (rows .1)
     contact X = omega arith
     contact Y = omega arith
     contact Z = omega arith
+
+-- under CLEAR the bodies may come within a unit of contact
+pub not-by-a-unit : OfEvery (λ r a. a .word ≡ 2 → (m : Place) → OnBodies r m → Within r 1 m → ⊥) → ⊥
+unfolding gapOn vertexFace edgeEdge moving negateFrom sided
+not-by-a-unit f = f short 4096 (Clear 1) (rows .3) refl (at 4 4 1 1) here one-off
+  where
+    here : OnBodies short (at 4 4 1 1)
+    here = record { positive = omega arith; t = omega arith; u = omega arith; v = omega arith; face = λ _. omega arith }
+
+    one-off : Within short 1 (at 4 4 1 1)
+    one-off X = omega arith
+    one-off Y = omega arith
+    one-off Z = omega arith
 
 -- one unit less than the excess may be too little
 pub not-less-excess : OfEvery (λ r a. T (hasMoment a) → Within r (a .excess - 1) (answered a)) → ⊥
