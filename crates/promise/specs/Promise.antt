@@ -44,7 +44,11 @@ No-earlier r a = T (hasMoment a) → (m : Place) → OnBodies r m → Contact r 
 abbrev pub There : Record → Told → Type 0
 There r a = T (hasMoment a) → OnBodies r (answered a) × Within r (a .excess) (answered a)
 
--- the first two by a margin, of every place that is less than 1/(parts·parts) from contact. So an irrational contact is not missed either: rational
+-- MET (word 1): the excess is at most the tolerance
+abbrev pub Within-tolerance : Record → Told → Type 0
+Within-tolerance r a = a .word ≡ 1 → a .excess ≤ r .tolerance
+
+-- and the first two by a margin: of every place that is less than 1/(parts·parts) from contact. So an irrational contact is not missed either: rational
 -- places as near to it as one likes would be such (that step is analysis, and on paper)
 abbrev pub NearContact : Record → Place → Type 0
 NearContact r m =
@@ -53,17 +57,13 @@ NearContact r m =
 abbrev pub By-a-margin : Record → Told → Type 0
 By-a-margin r a = (m : Place) → OnBodies r m → NearContact r m → (a .word ≡ 2 → ⊥) × (T (hasMoment a) → a .t * m .q ≤ m .a * parts)
 
--- MET (word 1): the excess is at most the tolerance
-abbrev pub Within-tolerance : Record → Told → Type 0
-Within-tolerance r a = a .word ≡ 1 → a .excess ≤ r .tolerance
-
 -- all of them
 pub record Promised (r : Record) (a : Told) : Type 0 where
   pub clear-is-clear : Clear-is-clear r a
   pub no-earlier : No-earlier r a
-  pub by-a-margin : By-a-margin r a
   pub there : There r a
   pub within-tolerance : Within-tolerance r a
+  pub by-a-margin : By-a-margin r a
 
 -- ---- of the written search
 
