@@ -1,7 +1,7 @@
 -- Document 01's printed example, and that the definitions meet an answer's own numbers.
 use Prim.Native.Nat.{ℕ}
 use mathlib.Core.Path.{_≡_, refl}
-use mathlib.Core.List.{List, [], _∷_}
+use mathlib.Core.List.{List, [], _∷_, _++_, append-assoc}
 use Rattle.rules.specs.Answers.{told}
 use Rattle.rules.specs.declared.Answer.the-variants.{Met, Clear, Spent, Refused}
 use Rattle.text.specs.Text.{ascii, digits, decimal, field, kindOf, named, values, line, lines, tally, tallied, tallies, total, fileText, refusedText, rowOf, rows}
@@ -28,6 +28,11 @@ pub example-text :
     ≡ ascii "1 MET 262144 0 0 500 5\n2 CLEAR 0 0 0 0 10\n3 SPENT 0 0 0 1000 4\nTOTAL 3 MET 1 CLEAR 1 SPENT 1 ROOM 0 FLOOR 0 REFUSED 0\n"
 unfolding digits decimal field kindOf named values line lines tally tallied tallies total fileText rowOf rows
 example-text = refl
+
+-- "zeros for the four middle numbers of CLEAR", whatever the id and the count
+pub clear-line : (id count : ℕ) → line (record { id = id; answer = told (Clear count) }) ≡ decimal id ++ ascii " CLEAR 0 0 0 0 " ++ decimal count ++ ascii "\n"
+unfolding digits decimal field kindOf named values line
+clear-line id count = simp append-assoc
 
 -- "for a refused record: id, REFUSED, number", and the largest number of 32 bits
 pub refused-line : line (record { id = 4294967295; answer = told (Refused 5) }) ≡ ascii "4294967295 REFUSED 5\n"
