@@ -7,5 +7,7 @@ fn main() {
     }
     let object = std::env::var("TAPERHIVE_OBJECT").expect("TAPERHIVE_OBJECT names the object");
     println!("cargo::rerun-if-changed={object}");
-    println!("cargo::rustc-link-arg-bin=compare={object}");
+    for program in ["compare", "bench"] {
+        println!("cargo::rustc-link-arg-bin={program}={object}");
+    }
 }

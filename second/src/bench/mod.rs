@@ -1,0 +1,8 @@
+//! What the bench measures beside the proved search. The second program uses nothing of it.
+
+pub mod berth;
+pub mod corpus;
+pub mod float;
+pub mod measure;
+pub mod motion;
+pub mod plain;

@@ -1,0 +1,91 @@
+//! F in i64 as A + u·B + v·C, and a box's eight corners plainly.
+
+use crate::record::{Record, VERTEX_FACE};
+
+/// Parts of a parameter.
+pub const Q: i64 = 1 << 20;
+/// F times Q·Q is what is compared.
+pub const UNIT: i64 = 1 << 40;
+
+/// A, B and C on one axis, at t = 0 and at t = 1.
+#[derive(Clone, Copy)]
+struct Axis {
+    a: [i64; 2],
+    b: [i64; 2],
+    c: [i64; 2],
+}
+
+pub struct Motion {
+    pub vertex_face: bool,
+    axes: [Axis; 3],
+}
+
+/// A box's low and high t, u, v, over Q.
+pub type Ends = [[i64; 2]; 3];
+
+impl Motion {
+    pub fn of(record: &Record) -> Motion {
+        let vertex_face = record.kind == VERTEX_FACE;
+        let mirrored = record.flags & 1 == 1;
+        let axes = [0, 1, 2].map(|axis| {
+            let mut axis_of = Axis { a: [0; 2], b: [0; 2], c: [0; 2] };
+            for (end, points) in [&record.start, &record.end].into_iter().enumerate() {
+                let mut p = points.map(|point| i64::from(point[axis]));
+                if mirrored && axis == 1 {
+                    let second_body = if vertex_face { 1 } else { 2 };
+                    p[second_body..].iter_mut().for_each(|y| *y = -*y);
+                }
+                let [p1, p2, p3, p4] = p;
+                let abc = if vertex_face {
+                    [p1 - p2, p2 - p3, p2 - p4]
+                } else {
+                    [p1 - p3, p2 - p1, p3 - p4]
+                };
+                (axis_of.a[end], axis_of.b[end], axis_of.c[end]) = (abc[0], abc[1], abc[2]);
+            }
+            axis_of
+        });
+        Motion { vertex_face, axes }
+    }
+
+    /// Least and greatest of F times Q·Q over a box's eight corners, on one axis.
+    #[inline(always)]
+    pub fn span(&self, axis: usize, [t, u, v]: &Ends) -> (i64, i64) {
+        let of = &self.axes[axis];
+        let (mut least, mut greatest) = (i64::MAX, i64::MIN);
+        for t in t {
+            let at = |ends: [i64; 2]| (Q - t) * ends[0] + t * ends[1];
+            let (a, b, c) = (Q * at(of.a), at(of.b), at(of.c));
+            for u in u {
+                for v in v {
+                    let f = a + u * b + v * c;
+                    least = least.min(f);
+                    greatest = greatest.max(f);
+                }
+            }
+        }
+        (least, greatest)
+    }
+
+    /// The gap times Q·Q at a place.
+    pub fn gap(&self, place: [i64; 3]) -> i64 {
+        let span = |axis| self.span(axis, &place.map(|part| [part; 2])).0.abs();
+        span(0).max(span(1)).max(span(2))
+    }
+
+    /// For t, u, v: the largest axis difference of F between the parameter's ends.
+    pub fn differences(&self) -> [i64; 3] {
+        let mut largest = [0; 3];
+        for Axis { a, b, c } in &self.axes {
+            let [da, db, dc] = [a, b, c].map(|ends| ends[1] - ends[0]);
+            for over_t in [da, da + db, da + dc, da + db + dc] {
+                largest[0] = over_t.abs().max(largest[0]);
+            }
+            for end in 0..2 {
+                largest[1] = b[end].abs().max(largest[1]);
+                largest[2] = c[end].abs().max(largest[2]);
+            }
+        }
+        largest
+    }
+}
