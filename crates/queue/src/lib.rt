@@ -6,6 +6,7 @@ ghost use lib.ListN.{length, take, drop, replicate};
 ghost use Rattle.rules.specs.Search.{stored, lowHalf, highHalf, inside};
 ghost use Rattle.kernel.specs.Kernel.{asked};
 ghost use Rattle.boxes.specs.Boxes.{boxOf};
+ghost use Rattle.queue.specs.Cleared.{cleared};
 ghost use Rattle.queue.specs.Level.{Halved, PickIs, Picks, Picked, Grows, Grown};
 use boxes::high_half;
 use boxes::low_half;
@@ -24,6 +25,14 @@ pub fn clear(words: &mut [u64])
         words[i] = 0;
         i += 1;
     }
+}
+
+// The words from the start to the end are zero afterwards.
+pub fn clear_part(words: &mut [u64], start: usize, end: usize)
+    requires { ⌜ (start ≤ end) × (end ≤ length (now words)) ⌝ }
+    ensures { λ _. ⌜ now (words .exit) ≡ cleared start end (now (words .entry)) ⌝ }
+{
+    clear(&mut words[start..end]);
 }
 
 // The n words from h on are copied to the front.

@@ -1,0 +1,5 @@
+pub mod Checking
+pub mod Tidying
+pub mod Deepening
+pub mod Stepping
+pub mod Running

@@ -1,0 +1,82 @@
+-- The ways out are laws of `Stepping`.
+use mathlib.Core.Path.{_∙_}
+use Rattle.search.proofs.Stepping.{grows, splits-room, splits-level}
+use native.Mathlib.Omega.{arith}
+use borrow.Author.Needs.{needs}
+use Rattle.search.proofs.next_level.Statement.{statement}
+use Rattle.search.proofs.next_level.Tie as tie
+
+split-requires : tie.Need-split-requires
+split-requires c κs =
+    let s = c .before .before .before in
+    (s .pre .fine .ranged, s .pre .fine .shallow)
+
+deepen-requires : tie.Need-deepen-requires
+deepen-requires c κs =
+    let s = c .before .before .before .before in
+    s .pre .fine .shallow
+
+grow-requires : tie.Need-grow-requires
+grow-requires c κs =
+    let s = c .before .before .before .before .before .before in
+    rw (c .before .deepen .ensures, c .before .before .split .ensures) (grows (s .args .p) (s .args .l) (s .args .queue .now) (s .pre))
+
+enum-told : tie.Need-enum-told
+enum-told c = search needs
+
+add-end : tie.Need-add-end
+add-end c = search needs
+
+clear-part-requires : tie.Need-clear-part-requires
+clear-part-requires c κs =
+    let s = c .before .before .before .before .before .before .before .before .before .before .before .before in
+    (omega arith, omega (arith, c .before .before .before .before .before .grow .kept .1 .1 .1 .0, s .pre .fine .twice))
+
+enum-known-size : tie.Need-enum-known-size
+enum-known-size c = search needs
+
+copy-down-requires : tie.Need-copy-down-requires
+copy-down-requires c κs =
+    let s = c .before .before .before .before .before .before .before .before .before .before .before .before .before in
+    let g = c .before .before .size .given in
+    let x = rw (g .1) at (c .before .before .before .before .before .before .grow .ensures .next) in
+    (x .fits, omega (arith, x .fits, c .before .before .before .before .before .before .grow .kept .1 .1 .1 .0, s .pre .fine .twice))
+
+larger-requires : tie.Need-larger-requires
+larger-requires c κs = search needs
+
+same-length : tie.Need-same-length
+same-length c = search needs
+
+returns : tie.Need-returns
+returns c =
+    let s = c .before .before .before .before .before .before .before .before .before .before .before .before .before .before .before in
+    splits-room (s .args .p) (s .args .l) (s .args .queue .now) (s .pre) (c .before .before .before .before .before .before .before .before .grow .last .1 .1 .1 .0) (c .before .before .clear-part .last .0) (c .before .before .before .before .before .before .before .before .grow .kept .1 .1 .1 .0) (rw (c .before .before .before .before .enum-told .given .1, c .before .before .before .before .before .before .before .before .before .before .deepen .ensures, c .before .before .before .before .before .before .before .before .before .before .before .split .ensures) at (c .before .before .before .before .before .before .before .before .grow .ensures)) (c .before .before .clear-part .ensures)
+
+same-length-2 : tie.Need-same-length-2
+same-length-2 c = search needs
+
+returns-2 : tie.Need-returns-2
+returns-2 c =
+    let s = c .before .before .before .before .before .before .before .before .before .before .before .before .before .before .before .before .before in
+    let g = c .before .before .before .before .before .before .size .given in
+    rw (c .before .before .before .before .before .before .before .before .before .before .before .before .deepen .ensures, c .before .before .before .before .before .before .before .before .before .before .before .before .before .split .ensures)
+    (splits-level (s .args .p) (s .args .l) (s .args .queue .now) (s .pre) (c .before .before .before .before .before .before .before .before .before .before .grow .last .1 .1 .1 .0) (c .before .before .before .copy-down .last .0) (c .before .before .before .before .before .before .before .before .before .before .grow .kept .1 .1 .1 .0) (g .0 .0) (c .larger .result) (rw (g .1, c .before .before .before .before .before .before .before .before .before .before .before .before .deepen .ensures, c .before .before .before .before .before .before .before .before .before .before .before .before .before .split .ensures) at (c .before .before .before .before .before .before .before .before .before .before .grow .ensures)) (c .before .before .before .copy-down .ensures) (c .before .before .before .copy-down .kept .0 ∙ c .before .before .before .before .before .before .before .before .before .before .grow .kept .1 .1 .1 .0) (c .larger .ensures))
+
+pub next-level-spec : {M : Type 1} → statement M
+next-level-spec =
+    tie.close
+    (tie.spec
+    split-requires
+    deepen-requires
+    grow-requires
+    enum-told
+    add-end
+    clear-part-requires
+    enum-known-size
+    copy-down-requires
+    larger-requires
+    same-length
+    returns
+    same-length-2
+    returns-2)

@@ -1,0 +1,2 @@
+-- What the functions of the search promise, each a step of the written search.
+pub mod Levels

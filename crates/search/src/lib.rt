@@ -1,0 +1,273 @@
+// The search of one query: the levels in the lent queue, from the whole cube of parameters down.
+ghost use mathlib.Core.Path.{_≡_};
+ghost use mathlib.Core.Bool.{Bool, _&&_, false};
+ghost use Prim.Native.Nat.{ℕ, _+_, _<_, _≤_, _/_, max};
+ghost use lib.Dec.{eqb};
+ghost use lib.ListN.{length, replicate};
+ghost use Rattle.rules.specs.Numbers.{deepest};
+ghost use Rattle.rules.specs.Answers.{queueAfter};
+ghost use Rattle.rules.specs.Search.{full, deeper, run, search};
+ghost use Rattle.kernel.specs.Kernel.{asked};
+ghost use Rattle.kernel.specs.Ranges.{Shallow};
+ghost use Rattle.search.specs.Levels.{Answers, OneBox, FirstIs, BoxIs, Fine, Tidy, Checks, Splitting, Splits, Steps, Zeroed};
+use boxes::unpack;
+use kernel::Pair;
+use queue::Next;
+use queue::clear;
+use queue::clear_part;
+use queue::copy_down;
+use queue::grow;
+use rules::Answer;
+use rules::Corner;
+use rules::Parameter;
+use rules::Record;
+use rules::Three;
+
+const DEEPEST: u64 = 20;
+
+// What checking one box comes to: the end of the search, a lost box, or a survivor and the corner recorded after it.
+pub enum Seen {
+    Ends(Answer),
+    Lost,
+    Survives(Corner),
+}
+
+// A level: its boxes are the first words of the queue; `used` is the largest size so far.
+pub struct Level {
+    pub depths: Three,
+    pub size: usize,
+    pub used: usize,
+    pub corner: Corner,
+    pub count: u32,
+}
+
+// The search ends, or goes on with a level.
+pub enum Step {
+    Ends(Answer),
+    Goes(Level),
+}
+
+fn is_full(k: Three) -> bool
+    ensures { λ r. ⌜ r ≡ (eqb (k .t) deepest && eqb (k .u) deepest && eqb (k .v) deepest) ⌝ }
+{
+    k.t == DEEPEST && k.u == DEEPEST && k.v == DEEPEST
+}
+
+// A level's first survivor: MET, or FLOOR, or its corner is recorded.
+fn first_survivor(p: Pair, k: Three, b: Three, count: u32) -> Seen
+    requires { ⌜ OneBox p k b ⌝ }
+    ensures { λ r. ⌜ FirstIs (asked p) k b count r ⌝ }
+{
+    let c = gap::corner(p, k, b);
+    if gap::near(p, k, b) {
+        return Seen::Ends(Answer::Met {
+            t: c.t,
+            u: c.u,
+            v: c.v,
+            excess: c.excess,
+            count,
+        });
+    }
+    if is_full(k) {
+        return Seen::Ends(Answer::Floor {
+            t: c.t,
+            u: c.u,
+            v: c.v,
+            excess: c.excess,
+            count,
+        });
+    }
+    Seen::Survives(c)
+}
+
+// One box, before which the budget is asked; `seen`: the level has had a survivor.
+fn check_box(p: Pair, k: Three, b: Three, seen: bool, c: Corner, count: u32) -> Seen
+    requires { ⌜ OneBox p k b × (count ≤ p .budget) ⌝ }
+    ensures { λ r. ⌜ BoxIs (asked p) k b seen c count r ⌝ }
+{
+    if count == p.budget {
+        return Seen::Ends(Answer::Spent {
+            t: c.t,
+            u: c.u,
+            v: c.v,
+            excess: c.excess,
+            count,
+        });
+    }
+    if !gap::survives(p, k, b) {
+        return Seen::Lost;
+    }
+    if seen {
+        return Seen::Survives(c);
+    }
+    first_survivor(p, k, b, count + 1)
+}
+
+// Checks a level's boxes in order, and keeps the survivors at the front.
+fn check_level(p: Pair, queue: &mut [u64], l: Level) -> Step
+    requires { ⌜ Fine p (now queue) l ⌝ }
+    ensures { λ r. ⌜ Checks p l (now (queue .entry)) (now (queue .exit)) r ⌝ }
+{
+    let k = l.depths;
+    let n = l.size;
+    let mut corner = l.corner;
+    let mut count = l.count;
+    let mut i = 0;
+    let mut m = 0;
+    while i < n {
+        let w = queue[i];
+        i += 1;
+        match check_box(p, k, unpack(w), 0 < m, corner, count) {
+            Seen::Ends(a) => return Step::Ends(a),
+            Seen::Lost => count += 1,
+            Seen::Survives(c) => {
+                corner = c;
+                count += 1;
+                queue[m] = w;
+                m += 1;
+            }
+        }
+    }
+    Step::Goes(Level {
+        depths: k,
+        size: m,
+        used: l.used,
+        corner,
+        count,
+    })
+}
+
+fn deepen(split: Parameter, k: Three) -> Three
+    requires { ⌜ Shallow k ⌝ }
+    ensures { λ r. ⌜ r ≡ deeper split k ⌝ }
+{
+    match split {
+        Parameter::InT => Three {
+            t: k.t + 1,
+            u: k.u,
+            v: k.v,
+        },
+        Parameter::InU => Three {
+            t: k.t,
+            u: k.u + 1,
+            v: k.v,
+        },
+        Parameter::InV => Three {
+            t: k.t,
+            u: k.u,
+            v: k.v + 1,
+        },
+    }
+}
+
+fn larger(a: usize, b: usize) -> usize
+    ensures { λ r. ⌜ r ≡ max a b ⌝ }
+{
+    if a <= b { b } else { a }
+}
+
+// The survivors of a level are split, and the next level is brought to the front, or there is no room for it.
+fn next_level(p: Pair, queue: &mut [u64], l: Level) -> Step
+    requires { ⌜ Splitting p (now queue) l ⌝ }
+    ensures { λ r. ⌜ Splits p l (now (queue .entry)) (now (queue .exit)) r ⌝ }
+{
+    let k = l.depths;
+    let c = l.corner;
+    let h = p.room;
+    let split = gap::split(p, k);
+    let depths = deepen(split, k);
+    match grow(p, depths, split, queue, l.size) {
+        Next::Room => {
+            let end = h + h;
+            clear_part(queue, h, end);
+            Step::Ends(Answer::Room {
+                t: c.t,
+                u: c.u,
+                v: c.v,
+                excess: c.excess,
+                count: l.count,
+            })
+        }
+        Next::Level(size) => {
+            copy_down(queue, h, size);
+            Step::Goes(Level {
+                depths,
+                size,
+                used: larger(l.used, size),
+                corner: c,
+                count: l.count,
+            })
+        }
+    }
+}
+
+// One level: its boxes are checked, and its survivors, if there are any, are split.
+fn one_level(p: Pair, queue: &mut [u64], l: Level) -> Step
+    requires { ⌜ Fine p (now queue) l ⌝ }
+    ensures { λ r. ⌜ Steps p l (now (queue .entry)) (now (queue .exit)) r ⌝ }
+{
+    match check_level(p, queue, l) {
+        Step::Ends(a) => Step::Ends(a),
+        Step::Goes(survivors) => {
+            if survivors.size == 0 {
+                return Step::Ends(Answer::Clear(survivors.count));
+            }
+            next_level(p, queue, survivors)
+        }
+    }
+}
+
+// Clears the words that the levels used.
+fn clear_used(queue: &mut [u64], h: usize, used: usize)
+    requires { ⌜ (used ≤ h) × (h + h ≤ length (now queue)) × Tidy h used (now queue) ⌝ }
+    ensures { λ _. ⌜ now (queue .exit) ≡ replicate (length (now (queue .entry))) 0 ⌝ }
+{
+    let end = h + used;
+    clear_part(queue, 0, used);
+    clear_part(queue, h, end);
+}
+
+// The search of a pair in a queue of zeros, which it leaves so; it clears only the words that it used.
+pub fn search_zeroed(p: Pair, queue: &mut [u64]) -> Answer
+    requires { ⌜ Zeroed p (now queue) ⌝ }
+    ensures { λ r. ⌜ r ≡ run (asked p) ⌝ }
+    ensures { λ r. ⌜ now (queue .exit) ≡ now (queue .entry) ⌝ }
+    ensures { λ r. ⌜ Answers r ⌝ }
+{
+    // a word of zero is the whole cube
+    let mut l = Level {
+        depths: Three { t: 0, u: 0, v: 0 },
+        size: 1,
+        used: 1,
+        corner: Corner {
+            t: 0,
+            u: 0,
+            v: 0,
+            excess: 0,
+        },
+        count: 0,
+    };
+    loop {
+        match one_level(p, queue, l) {
+            Step::Ends(a) => {
+                clear_used(queue, p.room, l.used);
+                return a;
+            }
+            Step::Goes(next) => l = next,
+        }
+    }
+}
+
+// The search of a record: a refusal touches no word, and after any answer every word is zero.
+pub fn search(r: Record, queue: &mut [u64]) -> Answer
+    ensures { λ a. ⌜ a ≡ search r (length (now (queue .entry))) ⌝ }
+    ensures { λ a. ⌜ now (queue .exit) ≡ queueAfter (search r (length (now (queue .entry)))) (now (queue .entry)) ⌝ }
+{
+    let number = refusals::search_refusal(r, queue.len());
+    if number != 0 {
+        return Answer::Refused(number);
+    }
+    let p = gap::prepare(r, queue.len());
+    clear(queue);
+    search_zeroed(p, queue)
+}
