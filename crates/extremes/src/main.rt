@@ -1,5 +1,6 @@
 // The box's questions at the extremes of document 01's numbers. A line: whether the box survives; the low corner's t, u, v and excess;
 // whether it is near; the parameter to split in (0, 1, 2 for t, u, v); whether the box is inside. L is 1,048,576, the largest coordinate.
+ghost use Prim.Native.Nat.{_≤_};
 ghost use Rattle.kernel.specs.Ranges.{Shallow, InGrid};
 use gap::corner;
 use gap::inside;
@@ -13,6 +14,9 @@ use refusals::search_refusal;
 use rules::Parameter;
 use rules::Record;
 use rules::Three;
+
+// The largest coordinate.
+const L: i32 = 1048576;
 
 // A number after those before it on the line.
 fn more(n: u64) {
@@ -46,9 +50,40 @@ fn query(kind: u8, flags: u8, separation: u32, tolerance: u32, points: [i32; 24]
     }
 }
 
-fn show(r: Record, k: Three, i: Three)
-    requires { ⌜ Shallow k × InGrid k i ⌝ }
+// The axis that starts at `at`: the first two points at a and the last two at b, and at c and d at the end.
+fn column(points: [i32; 24], at: usize, a: i32, b: i32, c: i32, d: i32) -> [i32; 24]
+    requires { ⌜ at ≤ 2 ⌝ }
 {
+    let mut q = points;
+    q[at] = a;
+    q[at + 3] = a;
+    q[at + 6] = b;
+    q[at + 9] = b;
+    q[at + 12] = c;
+    q[at + 15] = c;
+    q[at + 18] = d;
+    q[at + 21] = d;
+    q
+}
+
+// z of the first point at the start and at the end.
+fn falling(points: [i32; 24], from: i32, to: i32) -> [i32; 24] {
+    let mut q = points;
+    q[2] = from;
+    q[14] = to;
+    q
+}
+
+// One line: the box at depths kt, ku, kv and indices t, u, v.
+fn show(r: Record, kt: u64, ku: u64, kv: u64, t: u64, u: u64, v: u64)
+    requires { ⌜ Shallow (record { t = kt; u = ku; v = kv }) × InGrid (record { t = kt; u = ku; v = kv }) (record { t = t; u = u; v = v }) ⌝ }
+{
+    let k = Three {
+        t: kt,
+        u: ku,
+        v: kv,
+    };
+    let i = Three { t: t, u: u, v: v };
     if search_refusal(r, 2) == 0 {
         let p = prepare(r, 2);
         let c = corner(p, k, i);
@@ -67,164 +102,38 @@ fn show(r: Record, k: Three, i: Three)
 // p = v1 = L and v2 = v3 = -L on x and y, all negated at the end: F is 2L(u + v)(1 - 2t), from 4L to -4L at u = v = 1, so that the
 // scaled width is 2^63. On z F is 1 - 2t. Spreads are 8L, 2L, 2L.
 fn wide() {
-    let a = 1048576;
-    let b = -1048576;
-    let points = [
-        a,
-        a,
-        1,
-        a,
-        a,
-        0,
-        b,
-        b,
-        0,
-        b,
-        b,
-        0,
-        b,
-        b,
-        -1,
-        b,
-        b,
-        0,
-        a,
-        a,
-        0,
-        a,
-        a,
-        0,
-    ];
-    let r = query(1, 0, 0, 1048576, points);
+    let x = column([0; 24], 0, L, -L, -L, L);
+    let xy = column(x, 1, L, -L, -L, L);
+    let r = query(1, 0, 0, 1048576, falling(xy, 1, -1));
     // The cube: excess 1 from z, and a width beyond every tolerance.
-    show(r, Three { t: 0, u: 0, v: 0 }, Three { t: 0, u: 0, v: 0 });
+    show(r, 0, 0, 0, 0, 0, 0);
     // t to 1/2: z comes down to 0 and touches. From 1/2: F is 0 at the low corner.
-    show(r, Three { t: 1, u: 0, v: 0 }, Three { t: 0, u: 0, v: 0 });
-    show(r, Three { t: 1, u: 0, v: 0 }, Three { t: 1, u: 0, v: 0 });
+    show(r, 1, 0, 0, 0, 0, 0);
+    show(r, 1, 0, 0, 1, 0, 0);
     // t from 1/4: z is 1/2, rounded up; the width is 2L; 8L/4 ties with 2L, and t wins.
-    show(r, Three { t: 2, u: 0, v: 0 }, Three { t: 1, u: 0, v: 0 });
+    show(r, 2, 0, 0, 1, 0, 0);
     // t from 3/8: the width is L, which is the tolerance; 8L/8 loses to 2L, and u wins over v.
-    show(r, Three { t: 3, u: 0, v: 0 }, Three { t: 3, u: 0, v: 0 });
+    show(r, 3, 0, 0, 3, 0, 0);
     // The last part of t, at depth 20 everywhere: z is below 0, and its size under 1 is rounded up.
-    show(
-        r,
-        Three {
-            t: 20,
-            u: 20,
-            v: 20,
-        },
-        Three {
-            t: 1048575,
-            u: 0,
-            v: 0,
-        },
-    );
+    show(r, 20, 20, 20, 1048575, 0, 0);
     // The last parts of u and v: F is 4L·1048575/1048576, and the box is outside the face.
-    show(
-        r,
-        Three { t: 0, u: 20, v: 20 },
-        Three {
-            t: 0,
-            u: 1048575,
-            v: 1048575,
-        },
-    );
+    show(r, 0, 20, 20, 0, 1048575, 1048575);
     // u and v from 1/2: on the face's edge, inside; F is 2L.
-    show(r, Three { t: 0, u: 1, v: 1 }, Three { t: 0, u: 1, v: 1 });
+    show(r, 0, 1, 1, 0, 1, 1);
 }
 
 // Two edges, y at L and at -L, still: F is 2L, 2,031,616 beyond the largest separation; turned by the flag it is 0.
 fn turned() {
-    let a = 1048576;
-    let b = -1048576;
-    let points = [
-        0,
-        a,
-        0,
-        0,
-        a,
-        0,
-        0,
-        b,
-        0,
-        0,
-        b,
-        0,
-        0,
-        a,
-        0,
-        0,
-        a,
-        0,
-        0,
-        b,
-        0,
-        0,
-        b,
-        0,
-    ];
-    let k = Three { t: 0, u: 0, v: 0 };
-    show(query(2, 0, 65536, 16, points), k, k);
-    show(query(2, 1, 65536, 16, points), k, k);
+    let y = column([0; 24], 1, L, -L, L, -L);
+    show(query(2, 0, 65536, 16, y), 0, 0, 0, 0, 0, 0);
+    show(query(2, 1, 65536, 16, y), 0, 0, 0, 0, 0, 0);
 }
 
 // A vertex from z 1 to -15 and to -16 over a face at 0: the width is 16, the least tolerance, and 17.
 fn narrow() {
-    let a = [
-        0,
-        0,
-        1,
-        0,
-        0,
-        0,
-        0,
-        0,
-        0,
-        0,
-        0,
-        0,
-        0,
-        0,
-        -15,
-        0,
-        0,
-        0,
-        0,
-        0,
-        0,
-        0,
-        0,
-        0,
-    ];
-    let b = [
-        0,
-        0,
-        1,
-        0,
-        0,
-        0,
-        0,
-        0,
-        0,
-        0,
-        0,
-        0,
-        0,
-        0,
-        -16,
-        0,
-        0,
-        0,
-        0,
-        0,
-        0,
-        0,
-        0,
-        0,
-    ];
-    let k = Three { t: 0, u: 0, v: 0 };
-    show(query(1, 0, 0, 16, a), k, k);
-    show(query(1, 0, 0, 16, b), k, k);
+    let z = [0; 24];
+    show(query(1, 0, 0, 16, falling(z, 1, -15)), 0, 0, 0, 0, 0, 0);
+    show(query(1, 0, 0, 16, falling(z, 1, -16)), 0, 0, 0, 0, 0, 0);
 }
 
 fn main() {
