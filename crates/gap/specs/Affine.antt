@@ -1,8 +1,8 @@
 -- At a moment F is A + u·B + v·C, so that its least over u and v is that of each term by itself.
-use mathlib.Core.Path.{_≡_, refl, sym, ap, ap₂, _∙_}
-use mathlib.Core.List.{List, [], _∷_}
+use mathlib.Core.Path.{_≡_, sym, ap, ap₂, _∙_}
+use mathlib.Core.List.{[], _∷_}
 use Prim.Native.Nat.{ℕ}
-use lib.IntN.{ℤ, pos, _+ℤ_, _-ℤ_, _*ℤ_, +ℤ-comm}
+use lib.IntN.{ℤ, pos, _+ℤ_, _*ℤ_, +ℤ-comm}
 use Rattle.whole.specs.Defs.{minZ, maxZ}
 use Rattle.whole.specs.Order.{min-add, max-add}
 use Rattle.whole.specs.Ring.{Ex, var, _:+_, _:*_, _:-_, ring}
@@ -10,7 +10,6 @@ use Rattle.rules.specs.Numbers.{parts}
 use Rattle.kernel.specs.declared.Kernel.{Kernel}
 use Rattle.kernel.specs.Kernel.{kern}
 use Rattle.gap.specs.declared.cell.Cell.{Cell}
-use Rattle.gap.specs.declared.span.Span.{Span}
 use Rattle.gap.specs.Corners.{value, over, spanOver, momentOf, valueAt, spanAt, joined}
 
 abbrev blendedE : ℕ → ℕ → Ex

@@ -1,10 +1,8 @@
 -- F at a cell's corners is within 3·2^61, and the least is at most the greatest.
-use mathlib.Core.Path.{_≡_, sym, _∙_, subst}
-use mathlib.Core.Bool.{Bool}
+use mathlib.Core.Path.{_≡_, sym, subst}
 use Prim.Native.Nat.{ℕ, _+_, _*_, _≤_}
 use native.Mathlib.Omega.{arith}
-use lib.Dec.{leb}
-use lib.IntN.{ℤ, pos, natAbs, _+ℤ_, _-ℤ_, _*ℤ_}
+use lib.IntN.{ℤ, pos, _+ℤ_, _*ℤ_}
 use lib.Signed.{_≤ℤ_, leZ}
 use mir.Syntax.{w64}
 use mir.Val.{SFits}
@@ -17,9 +15,9 @@ use Rattle.kernel.specs.declared.Kernel.{Kernel}
 use Rattle.kernel.specs.Ranges.{Small}
 use Rattle.gap.specs.declared.cell.Cell.{Cell}
 use Rattle.gap.specs.declared.span.Moment.{Moment}
-use Rattle.gap.specs.Corners.{value, valueAt, momentOf, over, beyond, isNarrow}
+use Rattle.gap.specs.Corners.{value, valueAt, over, beyond, isNarrow}
 use Rattle.gap.specs.Affine.{value-at}
-use Rattle.gap.specs.Steps.{InParts, SmallMoment, moment-small, in-parts, term-within, termMost}
+use Rattle.gap.specs.Steps.{InParts, SmallMoment, moment-small, term-within, termMost}
 
 abbrev pub gapMost : ℕ
 gapMost = 6_917_529_027_641_081_856

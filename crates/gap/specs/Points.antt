@@ -2,15 +2,15 @@
 use mathlib.Core.Path.{_≡_, refl, ap, _∙_}
 use mathlib.Core.Bool.{Bool, true, false, cond, _&&_}
 use mathlib.Core.List.{List, [], _∷_}
-use Prim.Native.Nat.{ℕ, zero, suc, _+_, _*_}
+use Prim.Native.Nat.{ℕ, zero, suc, _+_}
 use native.Mathlib.Omega.{arith}
 use lib.IntN.{ℤ, pos, negℤ, _-ℤ_}
 use lib.ListN.{getD}
 use Rattle.whole.specs.Defs.{turned}
-use Rattle.whole.specs.Within.{Within, within-neg, within-sub, within-more}
+use Rattle.whole.specs.Within.{Within, within-neg, within-sub}
 use Rattle.rules.specs.Gap.{Axis, X, Y, Z, place, isSecondY, negateFrom}
 use Rattle.kernel.specs.declared.Kernel.{Kernel}
-use Rattle.kernel.specs.Kernel.{coordinate, kernelOf}
+use Rattle.kernel.specs.Kernel.{kernelOf}
 use Rattle.kernel.specs.Ranges.{Small}
 use Rattle.gap.specs.declared.points.Four.{Four}
 use Rattle.gap.specs.declared.span.Moment.{Moment}

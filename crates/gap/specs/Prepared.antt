@@ -1,22 +1,21 @@
 -- A pair that asks of the written search what a record asks, and that is in range.
 use mathlib.Core.Path.{_≡_, refl, sym, ap, _∙_}
 use mathlib.Core.Bool.{Bool, _&&_}
-use Prim.Native.Nat.{ℕ, _%_, _/_, _≤_}
+use Prim.Native.Nat.{ℕ, _%_}
 use native.Mathlib.Omega.{arith}
 use lib.Dec.{eqb}
-use lib.IntN.{ℤ, pos}
-use Rattle.whole.specs.Within.{Within}
+use lib.IntN.{pos}
 use Rattle.rules.specs.declared.Record.{Record}
 use Rattle.rules.specs.Numbers.{deepest, half}
 use Rattle.rules.specs.Gap.{Axis, X, Y, Z, place, gapOn, isVertexFace, sided, separationOn}
 use Rattle.rules.specs.Refusals.{searchRefusal}
-use Rattle.rules.specs.Search.{Query, query}
+use Rattle.rules.specs.Search.{query}
 use Rattle.kernel.specs.declared.Kernel.{Kernel}
 use Rattle.kernel.specs.declared.Pair.{Pair}
 use Rattle.kernel.specs.Kernel.{kern, kernelOf, asked, onAxis, apartOn}
 use Rattle.kernel.specs.Same.{gap-kernel}
 use Rattle.kernel.specs.Ranges.{Ranged}
-use Rattle.refusals.specs.Accepted.{AcceptedSearch, accepted-search}
+use Rattle.refusals.specs.Accepted.{accepted-search}
 use Rattle.gap.specs.Points.{Coordinates, kernelAt, kernel-at-is, kernel-small, isY}
 
 pub record Prepared (r : Record) (words : ℕ) (p : Pair) : Type 0 where

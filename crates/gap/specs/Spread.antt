@@ -1,5 +1,5 @@
 -- "the largest axis difference of F between its ends 0 and 1": along t what A, B, C change by, along u it is B, along v it is C.
-use mathlib.Core.Path.{_≡_, refl, sym, ap, ap₂, _∙_, subst}
+use mathlib.Core.Path.{_≡_, sym, ap, ap₂, _∙_, subst}
 use mathlib.Core.List.{List, [], _∷_}
 use Prim.Native.Nat.{ℕ, max, _-_, _*_, _≤_}
 use native.Mathlib.Omega.{arith}
@@ -45,17 +45,17 @@ zero = num (pos 0)
 abbrev one : Ex
 one = num (pos 1)
 
+pub along-t : (K : Kernel) (u v : ℤ) → kern K (pos 1) (pos 1) u v -ℤ kern K (pos 1) (pos 0) u v ≡ stepOf u v (changeOf K)
+unfolding kern
+along-t K u v =
+    ring (K .a0 ∷ K .b0 ∷ K .c0 ∷ K .a1 ∷ K .b1 ∷ K .c1 ∷ u ∷ v ∷ [])
+    (kernE one (var 6) (var 7) :- kernE zero (var 6) (var 7))
+    ((var 3 :- var 0) :+ var 6 :* (var 4 :- var 1) :+ var 7 :* (var 5 :- var 2))
+    tt
+
 module _ (K : Kernel) (x : ℤ) where
   abbrev values : List ℤ
   values = K .a0 ∷ K .b0 ∷ K .c0 ∷ K .a1 ∷ K .b1 ∷ K .c1 ∷ x ∷ []
-
-  pub along-t : (u v : ℤ) → kern K (pos 1) (pos 1) u v -ℤ kern K (pos 1) (pos 0) u v ≡ stepOf u v (changeOf K)
-  unfolding kern
-  along-t u v =
-      ring (K .a0 ∷ K .b0 ∷ K .c0 ∷ K .a1 ∷ K .b1 ∷ K .c1 ∷ u ∷ v ∷ [])
-      (kernE one (var 6) (var 7) :- kernE zero (var 6) (var 7))
-      ((var 3 :- var 0) :+ var 6 :* (var 4 :- var 1) :+ var 7 :* (var 5 :- var 2))
-      tt
 
   pub along-u-start : kern K (pos 1) (pos 0) (pos 1) x -ℤ kern K (pos 1) (pos 0) (pos 0) x ≡ K .b0
   unfolding kern
@@ -145,7 +145,7 @@ module _ (p : Pair) where
           same-sizes
           (λ axis. kern (onAxis p axis) (pos 1) (pos 1) (pos u) (pos v) -ℤ kern (onAxis p axis) (pos 1) (pos 0) (pos u) (pos v))
           (λ axis. stepOf (pos u) (pos v) (changeOf (onAxis p axis)))
-          (λ axis. along-t (onAxis p axis) (pos 0) (pos u) (pos v))
+          (λ axis. along-t (onAxis p axis) (pos u) (pos v))
 
   -- along u and v the change is one number at the start and one at the end
   ends-only : (f : ℕ → ℕ → Axis → ℤ) (start end : Axis → ℤ) → ((x : ℕ) (axis : Axis) → f 0 x axis ≡ start axis) → ((x : ℕ) (axis : Axis) → f 1 x axis ≡ end axis)

@@ -6,13 +6,13 @@ use native.Mathlib.Omega.{arith}
 use lib.IntN.{ℤ, pos, negsuc, natAbs, _+ℤ_, _-ℤ_, _*ℤ_}
 use mir.Syntax.{w64}
 use mir.Val.{SFits, toZ}
-use Rattle.whole.specs.Defs.{minZ, maxZ}
 use Rattle.whole.specs.Read.{cast-back}
 use Rattle.whole.specs.View.{up, dn, minus-view}
 use Rattle.whole.specs.Order.{min-pick, max-pick}
-use Rattle.whole.specs.Within.{Within, within-add, within-sub, within-mul, within-pos, within-more, fits}
+use Rattle.whole.specs.Within.{Within, within-add, within-mul, within-pos, within-more, fits}
 use Rattle.rules.specs.declared.Three.{Three}
 use Rattle.rules.specs.Numbers.{parts}
+use Rattle.rules.specs.Search.{unit}
 use Rattle.kernel.specs.declared.Kernel.{Kernel}
 use Rattle.kernel.specs.Ranges.{Small}
 use Rattle.gap.specs.declared.cell.Cell.{Cell}
@@ -121,3 +121,7 @@ span-small {M} {x} {y} f g = record { least = min-pick (Within M) x y f g; great
 -- a number of parts cast to an `i64`, as it is read back
 pub read-part : {n : ℕ} → n ≤ parts → toZ w64 n ≡ pos n
 read-part h = cast-back w64 (omega arith)
+
+-- the same of a number of units
+pub read-units : {n : ℕ} → n ≤ parts → toZ w64 (n * unit) ≡ pos (n * unit)
+read-units h = cast-back w64 (omega arith)

@@ -1,9 +1,6 @@
 // What F at a cell's corners says: on one axis, and on all three.
 ghost use mathlib.Core.Path.{_≡_};
 ghost use Prim.Native.Nat.{_≤_, _*_, _-_};
-ghost use lib.Dec.{leb};
-ghost use lib.IntN.{natAbs};
-ghost use Rattle.rules.specs.Search.{unit};
 ghost use Rattle.kernel.specs.Ranges.{Small, Ranged};
 ghost use Rattle.gap.specs.Corners.{meets, beyond, excessOf, isNarrow, isThin};
 ghost use Rattle.gap.specs.Steps.{InParts};

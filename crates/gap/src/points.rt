@@ -1,6 +1,5 @@
 // The kernel of an axis, from the coordinates of the eight points.
 ghost use mathlib.Core.Path.{_≡_};
-ghost use mathlib.Core.Bool.{_&&_};
 ghost use Prim.Native.Nat.{_≤_};
 ghost use Rattle.gap.specs.Points.{Coordinates, Near, fourOf, sidedFour, endOf, kernelAt};
 use super::span::Moment;

@@ -1,6 +1,5 @@
 -- `gap::inside` meets its contract.
 use borrow.Author.Needs.{needs}
-use mathlib.Core.Path.{_∙_}
 use native.Mathlib.Omega.{arith}
 use Rattle.rules.specs.Search.{inside}
 use Rattle.gap.specs.Grid.{in-parts-of}

@@ -1,6 +1,6 @@
 -- `gap::near` meets its contract.
 use borrow.Author.Needs.{needs}
-use mathlib.Core.Path.{_≡_, sym, _∙_}
+use mathlib.Core.Path.{_≡_, _∙_}
 use borrow.Author.Tests.{eq-eqb, ne-eqb}
 use Rattle.rules.specs.Search.{near, excess}
 use Rattle.kernel.specs.Kernel.{asked}

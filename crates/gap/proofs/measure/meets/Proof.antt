@@ -7,16 +7,16 @@ use lib.IntN.{pos, negℤ, _-ℤ_, +ℤ-idl}
 use mir.Syntax.{w64}
 use mir.Val.{SFits, toZ}
 use mir.Facts.{toZ-ofZ}
-use Rattle.whole.specs.Read.{cast-back}
 use Rattle.whole.specs.Within.{fits, within-sub, within-pos, within-more}
 use Rattle.rules.specs.Search.{unit}
 use Rattle.gap.specs.Corners.{meets}
+use Rattle.gap.specs.Steps.{read-units}
 use Rattle.gap.proofs.measure.meets.Statement.{statement}
 use Rattle.gap.proofs.measure.meets.Tie as tie
 
 module _ {d : ℕ} (h : d ≤ 65536) where
   limit : toZ w64 (d * unit) ≡ pos (d * unit)
-  limit = cast-back w64 (omega arith)
+  limit = read-units (omega arith)
 
   minus-fits : SFits w64 (pos 0 -ℤ pos (d * unit))
   minus-fits = fits tt (within-sub {N = 65536 * unit} (within-pos 0) (within-more (omega arith) (within-pos (d * unit))))

@@ -1,20 +1,12 @@
 -- `gap::measure::narrow` meets its contract.
 use borrow.Author.Needs.{needs}
-use mathlib.Core.Path.{_≡_}
-use Prim.Native.Nat.{ℕ, _*_, _≤_}
-use native.Mathlib.Omega.{arith}
-use lib.IntN.{pos}
 use mir.Syntax.{w64}
-use mir.Val.{SFits, toZ}
+use mir.Val.{SFits}
 use mir.Facts.{toZ-ofZ}
-use Rattle.whole.specs.Read.{cast-back}
-use Rattle.rules.specs.Search.{unit}
+use Rattle.gap.specs.Steps.{read-units}
 use Rattle.gap.specs.Bounds.{reach-fits, narrow-is}
 use Rattle.gap.proofs.measure.narrow.Statement.{statement}
 use Rattle.gap.proofs.measure.narrow.Tie as tie
-
-limit : {t : ℕ} → t ≤ 1048576 → toZ w64 (t * unit) ≡ pos (t * unit)
-limit h = cast-back w64 (omega arith)
 
 over-corners-requires : tie.Need-over-corners-requires
 over-corners-requires c κs = search needs
@@ -30,7 +22,7 @@ add-result c =
     let s = c .before .before .over-corners in
     let p = c .before .before .before .pre in
     let m : SFits w64 (s .result .least) = search needs in
-    rw (toZ-ofZ m, s .ensures, limit (p .1 .1)) (reach-fits (p .0) (p .1 .0) (p .1 .1))
+    rw (toZ-ofZ m, s .ensures, read-units (p .1 .1)) (reach-fits (p .0) (p .1 .0) (p .1 .1))
 
 returns : tie.Need-returns
 returns c =
@@ -39,7 +31,7 @@ returns c =
     let p = c .before .before .before .before .before .pre in
     let m : SFits w64 (s .result .least) = search needs in
     let g : SFits w64 (s .result .greatest) = search needs in
-    rw (toZ-ofZ g, toZ-ofZ m, s .ensures, limit (p .1 .1), toZ-ofZ (reach-fits (p .0) (p .1 .0) (p .1 .1))) (narrow-is (a .k) (a .w) (a .t))
+    rw (toZ-ofZ g, toZ-ofZ m, s .ensures, read-units (p .1 .1), toZ-ofZ (reach-fits (p .0) (p .1 .0) (p .1 .1))) (narrow-is (a .k) (a .w) (a .t))
 
 pub narrow-spec : {M : Type 1} → statement M
 narrow-spec = tie.close (tie.spec over-corners-requires mul-result cast-result add-result returns)

@@ -1,5 +1,4 @@
 -- `gap::points::sided` meets its contract.
-use borrow.Author.Needs.{needs}
 use lib.Dec.{lit≤}
 use mir.Syntax.{w32}
 use mir.Facts.{toZ-ofZ}

@@ -1,16 +1,11 @@
 -- `gap::span::reach` meets its contract.
 use borrow.Author.Needs.{needs}
-use mathlib.Core.Path.{_≡_}
-use Prim.Native.Nat.{ℕ, _≤_}
-use native.Mathlib.Omega.{arith}
-use lib.IntN.{pos, _*ℤ_}
 use mir.Syntax.{w64}
-use mir.Val.{toZ, ofZ}
 use mir.Facts.{toZ-ofZ}
 use Rattle.whole.specs.Defs.{minZ, maxZ}
 use Rattle.whole.specs.Read.{back₂}
-use Rattle.whole.specs.Within.{Within, fits}
-use Rattle.gap.specs.Steps.{term-within, read-part, blendMost}
+use Rattle.whole.specs.Within.{fits}
+use Rattle.gap.specs.Steps.{term-within, read-part}
 use Rattle.gap.proofs.span.reach.Statement.{statement}
 use Rattle.gap.proofs.span.reach.Tie as tie
 

@@ -1,5 +1,4 @@
 -- `gap::span::sum` meets its contract.
-use borrow.Author.Needs.{needs}
 use mir.Facts.{toZ-ofZ}
 use Rattle.gap.specs.Steps.{sums}
 use Rattle.gap.proofs.span.sum.Statement.{statement}

@@ -1,6 +1,4 @@
 -- `gap::weigh::way` meets its contract.
-use borrow.Author.Needs.{needs}
-use mathlib.Core.Path.{_≡_}
 use mir.Syntax.{w64}
 use mir.Facts.{toZ-ofZ}
 use Rattle.whole.specs.Read.{back}
