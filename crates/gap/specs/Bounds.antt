@@ -17,7 +17,7 @@ use Rattle.gap.specs.declared.cell.Cell.{Cell}
 use Rattle.gap.specs.declared.span.Moment.{Moment}
 use Rattle.gap.specs.Corners.{value, valueAt, over, beyond, isNarrow}
 use Rattle.gap.specs.Affine.{value-at}
-use Rattle.gap.specs.Steps.{InParts, SmallMoment, moment-small, term-within, termMost}
+use Rattle.gap.specs.Steps.{InParts, SmallMoment, moment-small, term-within, blendMost, termMost}
 
 abbrev pub gapMost : ℕ
 gapMost = 6_917_529_027_641_081_856
@@ -31,7 +31,7 @@ pub record Values (m : Moment) (u v : ℕ) : Type 0 where
   pub ab : SFits w64 (pos parts *ℤ m .a +ℤ pos u *ℤ m .b)
   pub abc : SFits w64 (valueAt m u v)
 
-module _ {m : Moment} {u v : ℕ} (s : SmallMoment m) (hu : u ≤ parts) (hv : v ≤ parts) where
+module _ {m : Moment} {u v : ℕ} (s : SmallMoment blendMost m) (hu : u ≤ parts) (hv : v ≤ parts) where
   first : Within termMost (pos parts *ℤ m .a)
   first = within-mul (within-pos parts) (s .a)
 

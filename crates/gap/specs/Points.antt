@@ -14,6 +14,7 @@ use Rattle.kernel.specs.Kernel.{kernelOf}
 use Rattle.kernel.specs.Ranges.{Small}
 use Rattle.gap.specs.declared.points.Four.{Four}
 use Rattle.gap.specs.declared.span.Moment.{Moment}
+use Rattle.gap.specs.Steps.{SmallMoment}
 
 -- the coordinates are in their range
 abbrev pub Coordinates : List ℤ → Type 0
@@ -87,12 +88,7 @@ turned-within false h = h
 pub four-near : (points : List ℤ) → Coordinates points → (at : ℕ) → Near (fourOf points at)
 four-near points h at = record { p0 = h at; p1 = h (at + 3); p2 = h (at + 6); p3 = h (at + 9) }
 
-pub record SmallEnd (m : Moment) : Type 0 where
-  pub a : Within 2_097_152 (m .a)
-  pub b : Within 2_097_152 (m .b)
-  pub c : Within 2_097_152 (m .c)
-
-end-small : (face : Bool) {f : Four} → Near f → SmallEnd (endOf face f)
+end-small : (face : Bool) {f : Four} → Near f → SmallMoment 2_097_152 (endOf face f)
 end-small true n = record { a = within-sub (n .p0) (n .p1); b = within-sub (n .p1) (n .p2); c = within-sub (n .p1) (n .p3) }
 end-small false n = record { a = within-sub (n .p0) (n .p2); b = within-sub (n .p1) (n .p0); c = within-sub (n .p2) (n .p3) }
 

@@ -21,6 +21,7 @@ use Rattle.kernel.specs.declared.Pair.{Pair}
 use Rattle.kernel.specs.Kernel.{kern, asked, onAxis}
 use Rattle.kernel.specs.Ranges.{Small, Ranged}
 use Rattle.gap.specs.declared.span.Moment.{Moment}
+use Rattle.gap.specs.Steps.{SmallMoment}
 
 abbrev pub changeOf : Kernel → Moment
 changeOf K = record { a = K .a1 -ℤ K .a0; b = K .b1 -ℤ K .b0; c = K .c1 -ℤ K .c0 }
@@ -78,22 +79,20 @@ module _ (K : Kernel) (x : ℤ) where
 abbrev pub spreadMost : ℕ
 spreadMost = 12_582_912
 
-pub record SmallChange (m : Moment) : Type 0 where
-  pub a : Within 4_194_304 (m .a)
-  pub b : Within 4_194_304 (m .b)
-  pub c : Within 4_194_304 (m .c)
+abbrev pub changeMost : ℕ
+changeMost = 4_194_304
 
-pub change-small : {K : Kernel} → Small K → SmallChange (changeOf K)
+pub change-small : {K : Kernel} → Small K → SmallMoment changeMost (changeOf K)
 change-small s = record { a = within-sub (s .a1) (s .a0); b = within-sub (s .b1) (s .b0); c = within-sub (s .c1) (s .c0) }
 
 pub record StepFits (u v : ℤ) (m : Moment) : Type 0 where
-  pub start : SmallChange m
+  pub start : SmallMoment changeMost m
   pub b : SFits w64 (u *ℤ m .b)
   pub c : SFits w64 (v *ℤ m .c)
   pub ab : SFits w64 (m .a +ℤ u *ℤ m .b)
   pub abc : SFits w64 (stepOf u v m)
 
-module _ {u v : ℤ} {m : Moment} (hu : Within 1 u) (hv : Within 1 v) (s : SmallChange m) where
+module _ {u v : ℤ} {m : Moment} (hu : Within 1 u) (hv : Within 1 v) (s : SmallMoment changeMost m) where
   pub step-within : Within spreadMost (stepOf u v m)
   step-within = within-add (within-add (s .a) (within-mul hu (s .b))) (within-mul hv (s .c))
 

@@ -42,10 +42,10 @@ blendMost = 2_199_023_255_552
 abbrev pub termMost : ℕ
 termMost = 2_305_843_009_213_693_952
 
-pub record SmallMoment (m : Moment) : Type 0 where
-  pub a : Within blendMost (m .a)
-  pub b : Within blendMost (m .b)
-  pub c : Within blendMost (m .c)
+pub record SmallMoment (M : ℕ) (m : Moment) : Type 0 where
+  pub a : Within M (m .a)
+  pub b : Within M (m .b)
+  pub c : Within M (m .c)
 
 pub record SmallSpan (M : ℕ) (s : Span) : Type 0 where
   pub least : Within M (s .least)
@@ -82,7 +82,7 @@ module _ {t : ℕ} {x y : ℤ} (ht : t ≤ parts) (hx : Within 2_097_152 x) (hy 
         sum = fits tt blend-within;
       }
 
-pub moment-small : {K : Kernel} {t : ℕ} → Small K → t ≤ parts → SmallMoment (momentOf K t)
+pub moment-small : {K : Kernel} {t : ℕ} → Small K → t ≤ parts → SmallMoment blendMost (momentOf K t)
 moment-small s h = record { a = blend-within h (s .a0) (s .a1); b = blend-within h (s .b0) (s .b1); c = blend-within h (s .c0) (s .c1) }
 
 -- ---- a term of F, and their sum

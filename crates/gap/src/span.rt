@@ -74,7 +74,7 @@ fn sum(x: i64, s: Span, t: Span) -> Span
 
 // The span over u and v at a moment, term by term.
 fn over_face(m: Moment, w: Cell) -> Span
-    requires { ⌜ SmallMoment m × InParts w ⌝ }
+    requires { ⌜ SmallMoment blendMost m × InParts w ⌝ }
     ensures { λ r. ⌜ r ≡ spanAt m w ⌝ }
 {
     let u = reach(w.u0, w.u1, m.b);
@@ -106,7 +106,7 @@ pub fn over_corners(k: Kernel, w: Cell) -> Span
 
 // F at a moment.
 pub fn value(m: Moment, u: u64, v: u64) -> i64
-    requires { ⌜ SmallMoment m × ((u ≤ parts) × (v ≤ parts)) ⌝ }
+    requires { ⌜ SmallMoment blendMost m × ((u ≤ parts) × (v ≤ parts)) ⌝ }
     ensures { λ r. ⌜ r ≡ valueAt m u v ⌝ }
 {
     PARTS * m.a + u as i64 * m.b + v as i64 * m.c

@@ -8,7 +8,8 @@ ghost use Rattle.whole.specs.Within.{Within};
 ghost use Rattle.rules.specs.Search.{spread, side, winner};
 ghost use Rattle.kernel.specs.Kernel.{asked};
 ghost use Rattle.kernel.specs.Ranges.{Small, Ranged};
-ghost use Rattle.gap.specs.Spread.{changeOf, stepOf, wayOf, StepFits, SmallChange, spreadMost};
+ghost use Rattle.gap.specs.Steps.{SmallMoment};
+ghost use Rattle.gap.specs.Spread.{changeOf, stepOf, wayOf, StepFits, changeMost, spreadMost};
 use super::span::Moment;
 use kernel::Kernel;
 use kernel::Pair;
@@ -45,7 +46,7 @@ fn largest(x: i64, y: i64, z: i64) -> u64
 
 // The same of the three axes' steps: one of the four ways.
 fn way(u: i64, v: i64, x: Moment, y: Moment, z: Moment) -> u64
-    requires { ⌜ Within 1 u × (Within 1 v × (SmallChange x × (SmallChange y × SmallChange z))) ⌝ }
+    requires { ⌜ Within 1 u × (Within 1 v × (SmallMoment changeMost x × (SmallMoment changeMost y × SmallMoment changeMost z))) ⌝ }
     ensures { λ r. ⌜ r ≡ wayOf u v x y z ⌝ }
 {
     let a = step(u, v, x);
