@@ -23,7 +23,7 @@ use Rattle.search.specs.declared.Seen.{Seen}
 use Rattle.search.specs.declared.Seen.the-variants.{Ends as EndsAt, Lost, Survives}
 use Rattle.search.specs.declared.Level.{Level}
 use Rattle.search.specs.declared.Step.the-variants.{Ends, Goes}
-use Rattle.search.specs.Levels.{OneBox, afterBox, NotFull, FirstIs, Within, BoxIs, boxes, Tidy, Fine, Checks}
+use Rattle.search.specs.Levels.{OneBox, afterBox, NotFull, FirstIs, Within, BoxIs, boxes, Tidy, Fine, CheckIs}
 use Rattle.search.proofs.Tidying.{tidy-front}
 
 -- ---- a level's first survivor
@@ -146,7 +146,7 @@ module _ (p : Pair) (l : Level) (old : List ℕ) (fine : Fine p old l) where
       unfolding check
       next r x = ap (pre (map boxOf (take m new))) (sym (x .says (λ s d. check (asked p) (l .depths) rest s d (count + 1)))) ∙ rw opened at (k .done)
 
-      pub checks-ends : (a : Answer) → BoxIs (asked p) (l .depths) box (ltb 0 m) corner count (EndsAt a) → Checks p l old new (Ends a)
+      pub checks-ends : (a : Answer) → BoxIs (asked p) (l .depths) box (ltb 0 m) corner count (EndsAt a) → CheckIs p l old new (Ends a)
       checks-ends a x = record { says = sym (next (EndsAt a) x); left = (x .within, left-tidy) }
 
       pub checking-lost : BoxIs (asked p) (l .depths) box (ltb 0 m) corner count Lost → Checking p l old new corner (count + 1) (i + 1) m
@@ -180,7 +180,7 @@ module _ (p : Pair) (l : Level) (old : List ℕ) (fine : Fine p old l) where
             done = rw (lt-ltb 0 (m + 1) (omega arith), add-one m, take-suc-set new m (getD new i 0) long, map-append) (pre-more (map boxOf (take m new)) box (check (asked p) (l .depths) rest true d (count + 1)) ∙ next (Survives d) x);
           }
 
-    pub checks-all : l .size ≤ i → Checks p l old new (Goes (record { depths = l .depths; size = m; used = l .used; corner = corner; count = count }))
+    pub checks-all : l .size ≤ i → CheckIs p l old new (Goes (record { depths = l .depths; size = m; used = l .used; corner = corner; count = count }))
     unfolding check
     checks-all past =
         let z : drop i (take (l .size) old) ≡ [] = drop-of-length-le (take (l .size) old) {i = i} (rw (length-take-le (l .size) old fits) past) in

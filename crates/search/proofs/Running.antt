@@ -15,7 +15,7 @@ use Rattle.kernel.specs.Kernel.{asked}
 use Rattle.search.specs.declared.Level.{Level}
 use Rattle.search.specs.declared.Step.{Step}
 use Rattle.search.specs.declared.Step.the-variants.{Ends, Goes}
-use Rattle.search.specs.Levels.{Answers, boxes, Fine, total, goOn, Steps, Zeroed}
+use Rattle.search.specs.Levels.{Answers, boxes, Fine, total, goOn, StepIs, Zeroed}
 
 pub record Running (p : Pair) (n : ℕ) (queue : List ℕ) (l : Level) : Type 0 where
   pub fine : Fine p queue l
@@ -64,14 +64,14 @@ module _ (p : Pair) (n : ℕ) (queue : List ℕ) (l : Level) (r : Running p n qu
   fuel : 61 - total (l .depths) ≡ suc (60 - total (l .depths))
   fuel = omega (arith, r .fine .shallow .t, r .fine .shallow .u, r .fine .shallow .v)
 
-  stepped : (s : Step) → Steps p l queue q₂ s → goOn (levels (60 - total (l .depths)) (asked p)) q₂ s ≡ run (asked p)
+  stepped : (s : Step) → StepIs p l queue q₂ s → goOn (levels (60 - total (l .depths)) (asked p)) q₂ s ≡ run (asked p)
   unfolding levels
   stepped s x = sym (x .says (levels (60 - total (l .depths)) (asked p))) ∙ rw fuel at (r .answer)
 
-  pub running-ends : (a : Answer) → Steps p l queue q₂ (Ends a) → a ≡ run (asked p)
+  pub running-ends : (a : Answer) → StepIs p l queue q₂ (Ends a) → a ≡ run (asked p)
   running-ends a x = stepped (Ends a) x
 
-  module _ (next : Level) (x : Steps p l queue q₂ (Goes next)) where
+  module _ (next : Level) (x : StepIs p l queue q₂ (Goes next)) where
     pub running-less : 61 - total (next .depths) < 61 - total (l .depths)
     running-less = omega (arith, x .after .total, fuel)
 

@@ -20,11 +20,11 @@ use Rattle.queue.specs.declared.Next.the-variants.{Room, Level as Places}
 use Rattle.queue.specs.All.{all-imp}
 use Rattle.queue.specs.Cleared.{cleared}
 use Rattle.queue.specs.Grid.{splits-grid}
-use Rattle.queue.specs.Level.{OfLevel, Splits as CanSplit, Grows, Grown}
+use Rattle.queue.specs.Level.{OfLevel, Splits, Grows, Grown}
 use Rattle.search.specs.declared.Level.{Level}
 use Rattle.search.specs.declared.Step.{Step}
 use Rattle.search.specs.declared.Step.the-variants.{Ends, Goes}
-use Rattle.search.specs.Levels.{boxes, Checks, Below, After, Splitting, Splits, Steps}
+use Rattle.search.specs.Levels.{boxes, CheckIs, Below, After, Splitting, SplitIs, StepIs}
 use Rattle.search.proofs.Deepening.{split-deepest, deeper-total, deeper-shallow}
 use Rattle.search.proofs.Tidying.{tidy-front, tidy-grown, tidy-back}
 
@@ -56,7 +56,7 @@ module _ (p : Pair) (l : Level) (old : List ℕ) (x : Splitting p old l) where
     shallow = shallow;
     fits = omega (arith, x .fine .size, x .fine .used);
     twice = x .fine .twice;
-    splits = all-imp (OfLevel (l .depths)) (CanSplit depths parameter) (splits-grid parameter (l .depths)) (take (l .size) old) (x .fine .grid);
+    splits = all-imp (OfLevel (l .depths)) (Splits depths parameter) (splits-grid parameter (l .depths)) (take (l .size) old) (x .fine .grid);
   }
 
   some : 0 < length (boxes old l)
@@ -67,7 +67,7 @@ module _ (p : Pair) (l : Level) (old : List ℕ) (x : Splitting p old l) where
 
   module _ (q₂ q₃ : List ℕ) (len : length q₂ ≡ length old) where
     pub splits-room : Grown p depths parameter (l .size) old q₂ Room → q₃ ≡ cleared (p .room) (p .room + p .room) q₂
-        → Splits p l old q₃ (Ends (withCount RoomAt (l .corner) (l .count)))
+        → SplitIs p l old q₃ (Ends (withCount RoomAt (l .corner) (l .count)))
     unfolding ifRoom
     splits-room g e = record {
       says = λ go. after go ∙ rw (lt-leb (length new) (p .room) (g .next .0));
@@ -85,7 +85,7 @@ module _ (p : Pair) (l : Level) (old : List ℕ) (x : Splitting p old l) where
       count : length new ≡ m
       count = sym (ap length (g .next .placed)) ∙ length-map (take m (drop (p .room) q₂)) boxOf ∙ long
 
-      pub splits-level : Splits p l old q₃ (Goes (record { depths = depths; size = m; used = used; corner = l .corner; count = l .count }))
+      pub splits-level : SplitIs p l old q₃ (Goes (record { depths = depths; size = m; used = used; corner = l .corner; count = l .count }))
       unfolding ifRoom
       splits-level = record {
         says = λ go. after go ∙ rw (le-leb (length new) (p .room) (omega (arith, count, g .next .fits)), brought, g .next .placed);
@@ -108,12 +108,12 @@ module _ (p : Pair) (l : Level) (old : List ℕ) (x : Splitting p old l) where
 -- ---- the level
 
 module _ (p : Pair) (l : Level) (old q₂ : List ℕ) where
-  pub steps-ends : (a : Answer) → Checks p l old q₂ (Ends a) → Steps p l old q₂ (Ends a)
+  pub steps-ends : (a : Answer) → CheckIs p l old q₂ (Ends a) → StepIs p l old q₂ (Ends a)
   unfolding afterLevel
   steps-ends a x = record { says = λ go. rw (x .says); after = x .left }
 
-  module _ (s : Level) (x : Checks p l old q₂ (Goes s)) where
-    pub steps-clear : s .size ≡ 0 → Steps p l old q₂ (Ends (Clear (s .count)))
+  module _ (s : Level) (x : CheckIs p l old q₂ (Goes s)) where
+    pub steps-clear : s .size ≡ 0 → StepIs p l old q₂ (Ends (Clear (s .count)))
     unfolding afterLevel
     steps-clear e = record { says = λ go. rw (x .says, e); after = (tt, rw (x .left .used) at (x .left .fine .tidy)) }
 
@@ -124,5 +124,5 @@ module _ (p : Pair) (l : Level) (old q₂ : List ℕ) where
     same-after q₃ (Ends a) t = (t .0, rw (x .left .used) at (t .1))
     same-after q₃ (Goes next) t = record { fine = t .fine; total = rw (x .left .depths) at (t .total) }
 
-    pub steps-splits : (q₃ : List ℕ) (r : Step) → Splits p s q₂ q₃ r → Steps p l old q₃ r
+    pub steps-splits : (q₃ : List ℕ) (r : Step) → SplitIs p s q₂ q₃ r → StepIs p l old q₃ r
     steps-splits q₃ r y = record { says = λ go. rw (x .says, ← x .left .depths) (y .says go); after = same-after q₃ r (y .after) }

@@ -102,7 +102,7 @@ abbrev pub Left : Pair → Level → List ℕ → Step → Type 0
 Left p l queue (Ends a) = Answers a × Tidy (p .room) (l .used) queue
 Left p l queue (Goes s) = Survivors p l queue s
 
-pub record Checks (p : Pair) (l : Level) (old new : List ℕ) (r : Step) : Type 0 where
+pub record CheckIs (p : Pair) (l : Level) (old new : List ℕ) (r : Step) : Type 0 where
   pub says : check (asked p) (l .depths) (boxes old l) false (l .corner) (l .count) ≡ checkedAs new r
   pub left : Left p l new r
 
@@ -138,11 +138,11 @@ pub record Splitting (p : Pair) (queue : List ℕ) (l : Level) : Type 0 where
   pub some : 0 < l .size
   pub not-full : full (asked p) (l .depths) ≡ false
 
-pub record Splits (p : Pair) (l : Level) (old new : List ℕ) (r : Step) : Type 0 where
+pub record SplitIs (p : Pair) (l : Level) (old new : List ℕ) (r : Step) : Type 0 where
   pub says : (go : Below) → afterLevel (asked p) (l .depths) go (through (l .count) (l .corner) (boxes old l)) ≡ goOn go new r
   pub after : After p l new r
 
-pub record Steps (p : Pair) (l : Level) (old new : List ℕ) (r : Step) : Type 0 where
+pub record StepIs (p : Pair) (l : Level) (old new : List ℕ) (r : Step) : Type 0 where
   pub says : (go : Below) → afterLevel (asked p) (l .depths) go (check (asked p) (l .depths) (boxes old l) false (l .corner) (l .count)) ≡ goOn go new r
   pub after : After p l new r
 

@@ -1,15 +1,15 @@
 // The search of one query: the levels in the lent queue, from the whole cube of parameters down.
 ghost use mathlib.Core.Path.{_≡_};
-ghost use mathlib.Core.Bool.{Bool, _&&_, false};
-ghost use Prim.Native.Nat.{ℕ, _+_, _<_, _≤_, _/_, max};
+ghost use mathlib.Core.Bool.{_&&_};
+ghost use Prim.Native.Nat.{_+_, _≤_, max};
 ghost use lib.Dec.{eqb};
 ghost use lib.ListN.{length, replicate};
 ghost use Rattle.rules.specs.Numbers.{deepest};
 ghost use Rattle.rules.specs.Answers.{queueAfter};
-ghost use Rattle.rules.specs.Search.{full, deeper, run, search};
+ghost use Rattle.rules.specs.Search.{deeper, run, search};
 ghost use Rattle.kernel.specs.Kernel.{asked};
 ghost use Rattle.kernel.specs.Ranges.{Shallow};
-ghost use Rattle.search.specs.Levels.{Answers, OneBox, FirstIs, BoxIs, Fine, Tidy, Checks, Splitting, Splits, Steps, Zeroed};
+ghost use Rattle.search.specs.Levels.{Answers, OneBox, FirstIs, BoxIs, Fine, Tidy, CheckIs, Splitting, SplitIs, StepIs, Zeroed};
 use boxes::unpack;
 use kernel::Pair;
 use queue::Next;
@@ -103,10 +103,10 @@ fn check_box(p: Pair, k: Three, b: Three, seen: bool, c: Corner, count: u32) -> 
     first_survivor(p, k, b, count + 1)
 }
 
-// Checks a level's boxes in order, and keeps the survivors at the front.
+// CheckIs a level's boxes in order, and keeps the survivors at the front.
 fn check_level(p: Pair, queue: &mut [u64], l: Level) -> Step
     requires { ⌜ Fine p (now queue) l ⌝ }
-    ensures { λ r. ⌜ Checks p l (now (queue .entry)) (now (queue .exit)) r ⌝ }
+    ensures { λ r. ⌜ CheckIs p l (now (queue .entry)) (now (queue .exit)) r ⌝ }
 {
     let k = l.depths;
     let n = l.size;
@@ -169,7 +169,7 @@ fn larger(a: usize, b: usize) -> usize
 // The survivors of a level are split, and the next level is brought to the front, or there is no room for it.
 fn next_level(p: Pair, queue: &mut [u64], l: Level) -> Step
     requires { ⌜ Splitting p (now queue) l ⌝ }
-    ensures { λ r. ⌜ Splits p l (now (queue .entry)) (now (queue .exit)) r ⌝ }
+    ensures { λ r. ⌜ SplitIs p l (now (queue .entry)) (now (queue .exit)) r ⌝ }
 {
     let k = l.depths;
     let c = l.corner;
@@ -204,7 +204,7 @@ fn next_level(p: Pair, queue: &mut [u64], l: Level) -> Step
 // One level: its boxes are checked, and its survivors, if there are any, are split.
 fn one_level(p: Pair, queue: &mut [u64], l: Level) -> Step
     requires { ⌜ Fine p (now queue) l ⌝ }
-    ensures { λ r. ⌜ Steps p l (now (queue .entry)) (now (queue .exit)) r ⌝ }
+    ensures { λ r. ⌜ StepIs p l (now (queue .entry)) (now (queue .exit)) r ⌝ }
 {
     match check_level(p, queue, l) {
         Step::Ends(a) => Step::Ends(a),
