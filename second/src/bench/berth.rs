@@ -103,12 +103,8 @@ impl Step {
             .into_iter()
             .map(|p| [p, [p[0] + surge, p[1], p[2] + heave + roll * p[1] / METRE]]);
         let (gangway, hull) = (box_of(&gangway), grid_of(&hull.collect::<Vec<_>>()));
-        let mut near = Vec::new();
-        for a in 0..gangway.len() {
-            near.extend(
-                (0..hull.len()).filter(|b| is_near(&gangway[a], &hull[*b])).map(|b| (a, b)),
-            );
-        }
+        let pairs = (0..gangway.len()).flat_map(|a| (0..hull.len()).map(move |b| (a, b)));
+        let near = pairs.filter(|(a, b)| is_near(&gangway[*a], &hull[*b])).collect();
         Step { gangway, hull, near }
     }
 }

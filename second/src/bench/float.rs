@@ -1,6 +1,7 @@
 //! Source document 004's method in f64, section 6 on top of Algorithm 2, for its time alone.
 
-use crate::record::{Record, EDGE_EDGE, RECORD_BYTES, VERTEX_FACE};
+use super::reading::{self, records};
+use crate::record::RECORD_BYTES;
 use std::cmp::Ordering;
 use std::collections::BinaryHeap;
 
@@ -12,7 +13,6 @@ const FILTERS: [f64; 2] = [6.217248937900877e-15, 6.661338147750939e-15];
 const FILTERS_APART: [f64; 2] = [7.105427357601002e-15, 7.549516567451064e-15];
 
 /// The method's input: eight points, d, delta and m_I.
-#[derive(Clone)]
 pub struct Query {
     vertex_face: bool,
     start: [[f64; 3]; 4],
@@ -36,17 +36,20 @@ pub struct Found {
 }
 
 impl Query {
-    /// Of a record of kind 1 or 2 without flags, taken as it is.
-    pub fn of(record: &Record) -> Query {
-        debug_assert!(record.kind == VERTEX_FACE || record.kind == EDGE_EDGE);
-        let metres = |points: &[[i32; 3]; 4]| points.map(|p| p.map(|c| f64::from(c) * METRES));
+    /// Of a sound record without flags, taken as it is.
+    #[inline(always)]
+    pub fn of(query: &reading::Query) -> Query {
+        let mut points = [[[0.0; 3]; 4]; 2];
+        for (n, coordinate) in query.coordinates.iter().enumerate() {
+            points[n / 12][n % 12 / 3][n % 3] = f64::from(*coordinate) * METRES;
+        }
         Query {
-            vertex_face: record.kind == VERTEX_FACE,
-            start: metres(&record.start),
-            end: metres(&record.end),
-            separation: f64::from(record.separation) * METRES,
-            delta: f64::from(record.tolerance) * METRES,
-            most_checks: record.budget,
+            vertex_face: query.vertex_face(),
+            start: points[0],
+            end: points[1],
+            separation: f64::from(query.separation) * METRES,
+            delta: f64::from(query.tolerance) * METRES,
+            most_checks: query.budget,
         }
     }
 
@@ -54,11 +57,14 @@ impl Query {
     fn cube(&self) -> [f64; 3] {
         let filters = if self.separation > 0.0 { FILTERS_APART } else { FILTERS };
         let filter = filters[usize::from(self.vertex_face)];
-        [0, 1, 2].map(|axis| {
-            let points = self.start.iter().chain(&self.end);
-            let gamma = points.fold(1.0, |most: f64, point| most.max(point[axis].abs()));
-            self.separation + filter * gamma * gamma * gamma
-        })
+        let mut cube = [1.0_f64; 3];
+        for (axis, side) in cube.iter_mut().enumerate() {
+            for point in self.start.iter().chain(&self.end) {
+                *side = side.max(point[axis].abs());
+            }
+            *side = self.separation + filter * *side * *side * *side;
+        }
+        cube
     }
 
     /// Least and greatest of F over the eight corners, on one axis.
@@ -130,13 +136,13 @@ impl Query {
     #[inline(always)]
     fn check(&self, cube: &[f64; 3], ends: &[[f64; 2]; 3]) -> Option<(f64, bool)> {
         let (mut width, mut inside) = (0.0_f64, true);
-        for axis in 0..3 {
+        for (axis, side) in cube.iter().enumerate() {
             let (least, greatest) = self.span(axis, ends);
-            if least > cube[axis] || greatest < -cube[axis] {
+            if least > *side || greatest < -side {
                 return None;
             }
             width = width.max(greatest - least);
-            inside &= least >= -cube[axis] && greatest <= cube[axis];
+            inside &= least >= -side && greatest <= *side;
         }
         Some((width, inside))
     }
@@ -181,8 +187,7 @@ impl PartialEq for Interval {
 
 impl Eq for Interval {}
 
-/// The queries of a sound query file, one after the other.
+/// The queries of a query file without leading bytes, one after the other.
 pub fn queries(file: &[u8]) -> impl Iterator<Item = Query> + '_ {
-    let records = file.chunks_exact(RECORD_BYTES);
-    records.map(|bytes| Query::of(&Record::from_bytes(bytes.try_into().expect("a chunk of 116"))))
+    records(file, 0, file.len() / RECORD_BYTES).map(|query| Query::of(&query))
 }

@@ -6,3 +6,4 @@ pub mod float;
 pub mod measure;
 pub mod motion;
 pub mod plain;
+pub mod reading;

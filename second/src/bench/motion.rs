@@ -1,6 +1,6 @@
 //! F in i64 as A + u·B + v·C, and a box's eight corners plainly.
 
-use crate::record::{Record, VERTEX_FACE};
+use super::reading::Query;
 
 /// Parts of a parameter.
 pub const Q: i64 = 1 << 20;
@@ -24,27 +24,21 @@ pub struct Motion {
 pub type Ends = [[i64; 2]; 3];
 
 impl Motion {
-    pub fn of(record: &Record) -> Motion {
-        let vertex_face = record.kind == VERTEX_FACE;
-        let mirrored = record.flags & 1 == 1;
-        let axes = [0, 1, 2].map(|axis| {
-            let mut axis_of = Axis { a: [0; 2], b: [0; 2], c: [0; 2] };
-            for (end, points) in [&record.start, &record.end].into_iter().enumerate() {
-                let mut p = points.map(|point| i64::from(point[axis]));
-                if mirrored && axis == 1 {
-                    let second_body = if vertex_face { 1 } else { 2 };
-                    p[second_body..].iter_mut().for_each(|y| *y = -*y);
-                }
-                let [p1, p2, p3, p4] = p;
-                let abc = if vertex_face {
-                    [p1 - p2, p2 - p3, p2 - p4]
+    #[inline(always)]
+    pub fn of(query: &Query) -> Motion {
+        let vertex_face = query.vertex_face();
+        let mut axes = [Axis { a: [0; 2], b: [0; 2], c: [0; 2] }; 3];
+        for (n, axis) in axes.iter_mut().enumerate() {
+            for end in 0..2 {
+                let sign = if query.mirrored() && n == 1 { -1 } else { 1 };
+                let p = |point: usize| i64::from(query.coordinates[12 * end + 3 * point + n]);
+                (axis.a[end], axis.b[end], axis.c[end]) = if vertex_face {
+                    (p(0) - sign * p(1), sign * (p(1) - p(2)), sign * (p(1) - p(3)))
                 } else {
-                    [p1 - p3, p2 - p1, p3 - p4]
+                    (p(0) - sign * p(2), p(1) - p(0), sign * (p(2) - p(3)))
                 };
-                (axis_of.a[end], axis_of.b[end], axis_of.c[end]) = (abc[0], abc[1], abc[2]);
             }
-            axis_of
-        });
+        }
         Motion { vertex_face, axes }
     }
 

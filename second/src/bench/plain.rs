@@ -1,9 +1,8 @@
 //! An exact search written by hand for speed: same answers, same calls, a fixed queue. Its yardstick is time, not proof.
 
 use super::motion::{Ends, Motion, Q, UNIT};
+use super::reading::{records, Query};
 use crate::file::open;
-use crate::record::{Record, RECORD_BYTES};
-use crate::refusals::{check_record, check_words};
 
 const DEEPEST: u32 = 20;
 /// Where the t, u and v index stand in a stored box.
@@ -25,21 +24,17 @@ pub fn answers<const LEAVE: bool>(file: &[u8], queue: &mut [u64], told: &mut [u3
         return 14;
     }
     let mut zeroed = false;
-    let records = file[opened.first..].chunks_exact(RECORD_BYTES).take(count);
-    for (bytes, told) in records.zip(told.chunks_exact_mut(8)) {
-        let record = Record::from_bytes(bytes.try_into().expect("a chunk of 116"));
-        told.fill(0);
-        told[0] = record.id;
-        match check_record(&record).and_then(|()| check_words(queue.len())) {
-            Err(refusal) => told[7] = refusal.number(),
-            Ok(()) => {
-                if !zeroed {
-                    queue.fill(0);
-                    zeroed = true;
-                }
-                told[1..7].copy_from_slice(&Search::of(&record).run::<LEAVE>(queue));
+    for (query, told) in records(file, opened.first, count).zip(told.chunks_exact_mut(8)) {
+        let refusal = query.refusal(queue.len());
+        let mut numbers = [query.id, 0, 0, 0, 0, 0, 0, refusal];
+        if refusal == 0 {
+            if !zeroed {
+                queue.fill(0);
+                zeroed = true;
             }
+            numbers[1..7].copy_from_slice(&Search::of(&query).run::<LEAVE>(queue));
         }
+        told.copy_from_slice(&numbers);
     }
     0
 }
@@ -59,12 +54,13 @@ struct Search {
 type Checked = Result<usize, u32>;
 
 impl Search {
-    fn of(record: &Record) -> Search {
+    #[inline(always)]
+    fn of(query: &Query) -> Search {
         Search {
-            motion: Motion::of(record),
-            separation: i64::from(record.separation) * UNIT,
-            tolerance: i64::from(record.tolerance) * UNIT,
-            budget: record.budget,
+            motion: Motion::of(query),
+            separation: i64::from(query.separation) * UNIT,
+            tolerance: i64::from(query.tolerance) * UNIT,
+            budget: query.budget,
             count: 0,
             depths: [0; 3],
             recorded: [0; 4],
@@ -122,11 +118,13 @@ impl Search {
 
     #[inline(always)]
     fn ends(&self, word: u64) -> Ends {
-        [0, 1, 2].map(|n| {
+        let mut ends = [[0; 2]; 3];
+        for (n, ends) in ends.iter_mut().enumerate() {
             let side = Q >> self.depths[n];
             let low = (word >> SHIFTS[n] & 0xF_FFFF) as i64 * side;
-            [low, low + side]
-        })
+            *ends = [low, low + side];
+        }
+        ends
     }
 
     /// Nothing where the box does not survive, else whether its width is within the tolerance.

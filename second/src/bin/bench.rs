@@ -5,6 +5,7 @@ use second::bench::float::{queries, Query};
 use second::bench::measure::{by_turns, Contestant, Measured};
 use second::bench::plain;
 use second::beside::{linked, Library};
+use std::borrow::Borrow;
 use std::collections::BinaryHeap;
 use std::hint::black_box;
 use std::process::ExitCode;
@@ -76,7 +77,7 @@ fn measured(class: &Class, library: &Library) -> Vec<(&'static str, Measured)> {
         called("by hand, eight corners", class, plain::answers::<false>),
         called("by hand, eight corners, leaves at a miss", class, plain::answers::<true>),
         floats("floats of 004, from the file", || queries(&class.file)),
-        floats("floats of 004, points ready", || ready.iter().cloned()),
+        floats("floats of 004, points ready", || ready.iter()),
     ];
     let measured = by_turns(&mut contestants, ROUNDS);
     contestants.iter().map(|one| one.name).zip(measured).collect()
@@ -112,13 +113,13 @@ fn boxes(told: &[u32]) -> u64 {
     told.chunks_exact(8).map(|told| u64::from(told[6])).sum()
 }
 
-fn floats<'a, I: Iterator<Item = Query>>(
+fn floats<'a, Q: Borrow<Query>, I: Iterator<Item = Q>>(
     name: &'static str,
     queries: impl Fn() -> I + 'a,
 ) -> Contestant<'a> {
     let mut heap = BinaryHeap::with_capacity(QUEUE_WORDS);
-    let run =
-        move || queries().map(|query| u64::from(black_box(query.solve(&mut heap)).checks)).sum();
+    let mut checks = move |query: Q| u64::from(black_box(query.borrow().solve(&mut heap)).checks);
+    let run = move || queries().map(&mut checks).sum();
     Contestant { name, run: Box::new(run) }
 }
 
