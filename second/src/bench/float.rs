@@ -60,7 +60,7 @@ impl Query {
         let mut cube = [1.0_f64; 3];
         for (axis, side) in cube.iter_mut().enumerate() {
             for point in self.start.iter().chain(&self.end) {
-                *side = side.max(point[axis].abs());
+                *side = greater(point[axis].abs(), *side);
             }
             *side = self.separation + filter * *side * *side * *side;
         }
@@ -82,7 +82,7 @@ impl Query {
                         ((1.0 - u) * p[0] + u * p[1]) - ((1.0 - v) * p[2] + v * p[3])
                     };
                     least = if f < least { f } else { least };
-                    greatest = if f > greatest { f } else { greatest };
+                    greatest = greater(f, greatest);
                 }
             }
         }
@@ -141,7 +141,7 @@ impl Query {
             if least > *side || greatest < -side {
                 return None;
             }
-            width = width.max(greatest - least);
+            width = greater(greatest - least, width);
             inside &= least >= -side && greatest <= *side;
         }
         Some((width, inside))
@@ -162,6 +162,15 @@ impl Query {
                 heap.push(next);
             }
         }
+    }
+}
+
+/// One instruction, where `max` would look after numbers that are none.
+fn greater(a: f64, b: f64) -> f64 {
+    if a > b {
+        a
+    } else {
+        b
     }
 }
 

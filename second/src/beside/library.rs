@@ -50,7 +50,9 @@ impl Library {
 /// The calls of one case.
 pub struct Caller<'a> {
     library: &'a Library,
-    case: &'a Case,
+    /// The file's bytes, from an address of any alignment.
+    shifted: Vec<u8>,
+    shift: usize,
     tally: &'a mut Tally,
     rng: Rng,
     pub differences: Vec<String>,
@@ -58,8 +60,14 @@ pub struct Caller<'a> {
 
 impl<'a> Caller<'a> {
     pub fn new(library: &'a Library, case: &'a Case, tally: &'a mut Tally) -> Caller<'a> {
-        let rng = Rng::new(case.seed, "calls");
-        Caller { library, case, tally, rng, differences: Vec::new() }
+        let mut rng = Rng::new(case.seed, "calls");
+        let shift = rng.below(8);
+        let shifted = [vec![0; shift], case.file.clone()].concat();
+        Caller { library, shifted, shift, tally, rng, differences: Vec::new() }
+    }
+
+    fn file(&self) -> &[u8] {
+        &self.shifted[self.shift..]
     }
 
     /// The whole file: room enough, some room beyond it, and one word too few.
@@ -77,7 +85,7 @@ impl<'a> Caller<'a> {
     fn all(&mut self, words: usize, lent: usize, expected: &Expected) {
         let call = format!("taperhive_answers, {words} words, told of {lent}");
         let (mut queue, mut told) = self.lend(words, lent);
-        let code = self.library.answers(&self.case.file, queue.slice(), told.slice());
+        let code = self.library.answers(self.file(), queue.slice(), told.slice());
         let must = expected.all(lent);
         let flat = must.as_ref().map(|records| records.concat()).map_err(|number| *number);
         let any = must.as_ref().is_ok_and(|records| records.iter().any(answered));
@@ -108,7 +116,7 @@ impl<'a> Caller<'a> {
     fn one(&mut self, n: usize, words: usize, lent: usize, expected: &Expected) {
         let call = format!("taperhive_answer, record {n}, {words} words, told of {lent}");
         let (mut queue, mut told) = self.lend(words, lent);
-        let code = self.library.answer(&self.case.file, n, queue.slice(), told.slice());
+        let code = self.library.answer(self.file(), n, queue.slice(), told.slice());
         let must = expected.one(n, lent);
         if let Ok(told) = &must {
             self.tally.told(told);
@@ -119,10 +127,10 @@ impl<'a> Caller<'a> {
 
     /// How many records the file has, with room for that number and with none.
     pub fn count(&mut self) {
-        let expected = Expected::of(&self.case.file, 0);
+        let expected = Expected::of(self.file(), 0);
         for lent in [1, 2, 0] {
             let mut count: Lent<u32> = Lent::new(self.rng.draw(), lent);
-            let code = self.library.count(&self.case.file, count.slice());
+            let code = self.library.count(self.file(), count.slice());
             let number = [expected.count() as u32];
             let must = match expected.records {
                 Err(number) => Err(number),
