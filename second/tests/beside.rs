@@ -6,6 +6,7 @@ use second::beside::{compare, process, report, tally::Tally, walk::Walk, Case};
 use second::gen::flavours;
 use std::fs;
 use std::path::PathBuf;
+use std::time::Duration;
 use stub::{library, Fault, FAULTS};
 
 const SEEDS: std::ops::Range<u64> = 1..3;
@@ -102,6 +103,18 @@ fn differences_are_kept_and_fail_the_verdict() {
     assert!(text.contains("seed 3, flavour tiny, words [0, 1, 2, 3,"), "{text}");
     assert!(text.contains("taperhive_answers, "), "{text}");
     assert!(text.contains("again: tools/compare --only 3 tiny\n"), "{text}");
+    fs::remove_dir_all(folder).unwrap();
+}
+
+#[test]
+fn comparing_nothing_fails() {
+    let folder = folder("nothing");
+    let sweep = program(&["sweep"]);
+    let walk = Walk { library: library::<0>(), program: &sweep, folder: folder.clone() };
+    assert!(!walk.run(1, Duration::ZERO));
+    assert!(walk.run(1, Duration::from_secs(2)));
+    // Nothing is left of a comparison without a difference.
+    assert_eq!(fs::read_dir(&folder).unwrap().count(), 0);
     fs::remove_dir_all(folder).unwrap();
 }
 

@@ -20,8 +20,9 @@ use tally::Tally;
 
 /// A queue longer than this is tried on few files: filling and looking at it takes long.
 const LONG: usize = 65_536;
-/// The most queue lengths for a file of more records than this.
-const CROWD: usize = 600;
+/// A file of more bytes than this gets few queue lengths.
+const CROWD: usize = 70_000;
+const FEW: usize = 5;
 
 /// A generated file and the queue lengths to try on it.
 pub struct Case {
@@ -47,7 +48,7 @@ impl Case {
         if !rng.one_in(4) {
             self.words.retain(|words| *words <= LONG);
         }
-        while self.file.len() > CROWD * 116 && self.words.len() > 5 {
+        while self.file.len() > CROWD && self.words.len() > FEW {
             self.words.remove(rng.below(self.words.len()));
         }
     }
