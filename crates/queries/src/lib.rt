@@ -43,7 +43,7 @@ fn write_points(s: &mut [u8], at: usize, p: [i32; 24])
     }
 }
 
-fn decode(s: &[u8], at: usize) -> Record
+pub fn decode(s: &[u8], at: usize) -> Record
     requires { ⌜ at + 116 ≤ length (now s) ⌝ }
     ensures { λ r. ⌜ r ≡ recordAt (now (s .entry)) at ⌝ }
 {

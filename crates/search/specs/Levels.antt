@@ -153,3 +153,7 @@ pub record Zeroed (p : Pair) (queue : List ℕ) : Type 0 where
   pub ranged : Ranged p
   pub room : p .room ≡ length queue / 2
   pub zero : queue ≡ replicate (length queue) 0
+
+-- a queue that is said to be clean is zero
+abbrev pub Clean : Bool → List ℕ → Type 0
+Clean clean queue = clean ≡ true → queue ≡ replicate (length queue) 0

@@ -9,7 +9,7 @@ ghost use Rattle.rules.specs.Answers.{queueAfter};
 ghost use Rattle.rules.specs.Search.{deeper, run, search};
 ghost use Rattle.kernel.specs.Kernel.{asked};
 ghost use Rattle.kernel.specs.Ranges.{Shallow};
-ghost use Rattle.search.specs.Levels.{Answers, OneBox, FirstIs, BoxIs, Fine, Tidy, CheckIs, Splitting, SplitIs, StepIs, Zeroed};
+ghost use Rattle.search.specs.Levels.{Answers, OneBox, FirstIs, BoxIs, Fine, Tidy, CheckIs, Splitting, SplitIs, StepIs, Zeroed, Clean};
 use boxes::unpack;
 use kernel::Pair;
 use queue::Next;
@@ -258,8 +258,19 @@ pub fn search_zeroed(p: Pair, queue: &mut [u64]) -> Answer
     }
 }
 
-// The search of a record: a refusal touches no word, and after any answer every word is zero.
-pub fn search(r: Record, queue: &mut [u64]) -> Answer
+// Every word is zero afterwards; where the queue is `clean` they are already.
+fn clear_unless(queue: &mut [u64], clean: bool)
+    requires { ⌜ Clean clean (now queue) ⌝ }
+    ensures { λ _. ⌜ now (queue .exit) ≡ replicate (length (now (queue .entry))) 0 ⌝ }
+{
+    if !clean {
+        clear(queue);
+    }
+}
+
+// The search of a record in a queue that may be `clean`: one who asks again and again clears it once.
+pub fn search_in(r: Record, queue: &mut [u64], clean: bool) -> Answer
+    requires { ⌜ Clean clean (now queue) ⌝ }
     ensures { λ a. ⌜ a ≡ search r (length (now (queue .entry))) ⌝ }
     ensures { λ a. ⌜ now (queue .exit) ≡ queueAfter (search r (length (now (queue .entry)))) (now (queue .entry)) ⌝ }
 {
@@ -268,6 +279,14 @@ pub fn search(r: Record, queue: &mut [u64]) -> Answer
         return Answer::Refused(number);
     }
     let p = gap::prepare(r, queue.len());
-    clear(queue);
+    clear_unless(queue, clean);
     search_zeroed(p, queue)
+}
+
+// The search of a record: a refusal touches no word, and after any answer every word is zero.
+pub fn search(r: Record, queue: &mut [u64]) -> Answer
+    ensures { λ a. ⌜ a ≡ search r (length (now (queue .entry))) ⌝ }
+    ensures { λ a. ⌜ now (queue .exit) ≡ queueAfter (search r (length (now (queue .entry)))) (now (queue .entry)) ⌝ }
+{
+    search_in(r, queue, false)
 }

@@ -1,0 +1,3 @@
+-- What the proofs of `answers` cite.
+pub mod Walking
+pub mod Refusing

@@ -1,0 +1,92 @@
+-- Refused or not: the file's own refusals first, then what else there is; and what a question then does. Assumes nothing.
+use Prim.Native.Nat.{ℕ, zero, suc, _+_, _*_, _≤_, _<_}
+use mathlib.Core.Path.{_≡_, refl, sym, ap, _∙_}
+use mathlib.Core.Bool.{Bool, true, false, not}
+use mathlib.Core.List.{List, [], _∷_, _++_}
+use borrow.Author.Tests.{lt-ltb, le-ltb}
+use lib.Dec.{ltb}
+use native.Mathlib.Omega.{arith}
+use lib.ListN.{length, set}
+use Rattle.rules.specs.Refusals.{Case, first}
+use Rattle.rules.specs.QueryFile.{queryForm, recordCount, openCases, openRefusal, put, putUnless}
+use Rattle.refusals.specs.Cases.{orElse, first-then}
+use Rattle.answers.specs.Walk.{short, queueUnless, Does, Counted, oneRefusal, allRefusal, countRefusal}
+
+module _ (s : List ℕ) (more : List Case) where
+  refused-first : (k : ℕ) → openRefusal queryForm s ≡ k → (k ≡ 0 → ⊥) → first (openCases queryForm s ++ more) ≡ k
+  unfolding openRefusal
+  refused-first zero e h = absurd (h refl)
+  refused-first (suc k) e h = first-then (openCases queryForm s) more tt ∙ ap (λ (m : ℕ). orElse m (first more)) e
+
+  opens-first : openRefusal queryForm s ≡ 0 → first (openCases queryForm s ++ more) ≡ first more
+  unfolding openRefusal
+  opens-first e = first-then (openCases queryForm s) more tt ∙ ap (λ (m : ℕ). orElse m (first more)) e
+
+-- ---- the numbers
+
+module _ (s out : List ℕ) (k : ℕ) (e : openRefusal queryForm s ≡ k) (h : k ≡ 0 → ⊥) where
+  pub one-refused : (n : ℕ) → k ≡ oneRefusal s n out
+  unfolding oneRefusal
+  one-refused n = sym (refused-first s _ k e h)
+
+  pub all-refused : k ≡ allRefusal s out
+  unfolding allRefusal
+  all-refused = sym (refused-first s _ k e h)
+
+  pub count-refused : k ≡ countRefusal s out
+  unfolding countRefusal
+  count-refused = sym (refused-first s _ k e h)
+
+module _ (s out : List ℕ) (e : openRefusal queryForm s ≡ 0) where
+  rows : ℕ → List Case
+  rows n = record { number = 13; due = not (ltb n (recordCount s)) } ∷ short out 8 ∷ []
+
+  pub one-index : (n : ℕ) → recordCount s ≤ n → 13 ≡ oneRefusal s n out
+  unfolding oneRefusal first rows
+  one-index n h = sym (opens-first s (rows n) e ∙ rw (le-ltb n (recordCount s) h))
+
+  pub one-short : (n : ℕ) → n < recordCount s → length out < 8 → 14 ≡ oneRefusal s n out
+  unfolding oneRefusal first rows
+  one-short n h k = sym (opens-first s (rows n) e ∙ rw (lt-ltb n (recordCount s) h, lt-ltb (length out) 8 k))
+
+  pub one-good : (n : ℕ) → n < recordCount s → 8 ≤ length out → 0 ≡ oneRefusal s n out
+  unfolding oneRefusal first rows
+  one-good n h k = sym (opens-first s (rows n) e ∙ rw (lt-ltb n (recordCount s) h, le-ltb (length out) 8 k))
+
+  pub all-short : length out < 8 * recordCount s → 14 ≡ allRefusal s out
+  unfolding allRefusal first
+  all-short k = sym (opens-first s (short out (8 * recordCount s) ∷ []) e ∙ rw (lt-ltb (length out) (8 * recordCount s) k))
+
+  pub all-good : 8 * recordCount s ≤ length out → 0 ≡ allRefusal s out
+  unfolding allRefusal first
+  all-good k = sym (opens-first s (short out (8 * recordCount s) ∷ []) e ∙ rw (le-ltb (length out) (8 * recordCount s) k))
+
+  pub count-short : length out < 1 → 14 ≡ countRefusal s out
+  unfolding countRefusal first
+  count-short k = sym (opens-first s (short out 1 ∷ []) e ∙ rw (lt-ltb (length out) 1 k))
+
+  pub count-good : 1 ≤ length out → 0 ≡ countRefusal s out
+  unfolding countRefusal first
+  count-good k = sym (opens-first s (short out 1 ∷ []) e ∙ rw (le-ltb (length out) 1 k))
+
+-- ---- what is done then
+
+pub refuses : (number : ℕ) {refusal : ℕ} (numbers after queue out : List ℕ) → number ≡ refusal → (number ≡ 0 → ⊥) → Does refusal numbers after queue queue out out number
+unfolding putUnless queueUnless
+refuses zero numbers after queue out e h = absurd (h refl)
+refuses (suc k) numbers after queue out e h = record { says = e; told = refl; left = refl }
+
+pub answers : {refusal : ℕ} {numbers after queue queue′ out out′ : List ℕ} → 0 ≡ refusal → out′ ≡ put out 0 numbers → queue′ ≡ after
+    → Does refusal numbers after queue queue′ out out′ 0
+unfolding putUnless queueUnless
+answers e t l = record { says = e; told = t; left = l }
+
+pub refuses-count : (s out : List ℕ) (number : ℕ) → number ≡ countRefusal s out → (number ≡ 0 → ⊥) → Counted s out out number
+unfolding putUnless
+refuses-count s out zero e h = absurd (h refl)
+refuses-count s out (suc k) e h = record { says = e; told = refl }
+
+pub counts : (s out : List ℕ) {n : ℕ} → 0 ≡ countRefusal s out → n ≡ recordCount s → 1 ≤ length out → Counted s out (set out 0 n) 0
+unfolding putUnless put
+counts s [] e c h = absurd (omega arith)
+counts s (x ∷ out) e c h = record { says = e; told = ap (λ (k : ℕ). k ∷ out) c }

@@ -1,0 +1,91 @@
+-- `answers::answer_one` meets its contract: in each arm, what the file opened to. Assumes nothing.
+use mathlib.Core.Path.{_≡_, sym, ap, _∙_}
+use Prim.Native.Nat.{ℕ, _+_, _*_}
+use mathlib.Core.List.{List}
+use native.Mathlib.Omega.{arith}
+use Rattle.rules.specs.QueryFile.{queryForm, openRefusal, placeOf}
+use Rattle.queries.specs.Opening.{Holds, opened-records, opened-refused}
+use Rattle.answers.proofs.Refusing.{one-refused, one-index, one-short, one-good, refuses, answers}
+use Rattle.answers.proofs.Walking.{at-place}
+use borrow.Author.Needs.{needs}
+use Rattle.answers.proofs.answer_one.Statement.{statement}
+use Rattle.answers.proofs.answer_one.Tie as tie
+
+refused : (c : tie.After-o) → (openRefusal queryForm (c .before .before .before .before .before .before .args .file .now) ≡ c .o .given .0 .0) × (c .o .given .0 .0 ≡ 0 → ⊥)
+refused c = opened-refused queryForm _ _ (sym (c .before .before .open-file .ensures) ∙ c .o .given .1)
+
+holds : (c : tie.After-o2) → Holds queryForm (c .before .before .before .before .before .before .args .file .now) (c .o2 .given .0 .0) (c .o2 .given .0 .1 .0)
+holds c = opened-records queryForm _ _ _ (sym (c .before .before .open-file .ensures) ∙ c .o2 .given .1)
+
+open-file-requires : tie.Need-open-file-requires
+open-file-requires c κs = search needs
+
+enum-known-o : tie.Need-enum-known-o
+enum-known-o c = search needs
+
+enum-known-o-2 : tie.Need-enum-known-o-2
+enum-known-o-2 c = search needs
+
+returns : tie.Need-returns
+returns c =
+    let k = c .before .before in
+    let a = k .before .before .before .before .before .before .args in
+    let h = holds k in
+    refuses 13 _ _ (a .queue .now) (a .out .now) (one-index (a .file .now) (a .out .now) (h .none) (a .n) (omega (arith, h .counts, c .if1 .taken))) (λ z. omega arith)
+
+returns-2 : tie.Need-returns-2
+returns-2 c =
+    let k = c .before .before .before in
+    let a = k .before .before .before .before .before .before .args in
+    let h = holds k in
+    refuses 14 _ _ (a .queue .now) (a .out .now)
+    (one-short (a .file .now) (a .out .now) (h .none) (a .n) (omega (arith, h .counts, c .before .if1 .left)) (omega (arith, c .if2 .taken)))
+    (λ z. omega arith)
+
+mul-answer-at : tie.Need-mul-answer-at
+mul-answer-at c = omega (arith, holds (c .before .before .before) .few)
+
+add-answer-at : tie.Need-add-answer-at
+add-answer-at c = omega (arith, holds (c .before .before .before) .few, holds (c .before .before .before) .ends)
+
+answer-at-requires : tie.Need-answer-at-requires
+answer-at-requires c κs =
+    record { there = omega (arith, holds (c .before .before .before .before .before) .ends); room = omega arith; zero = λ e. let z : _≡_ {A = ℕ} 0 1 = cc in absurd (omega arith) }
+
+returns-3 : tie.Need-returns-3
+returns-3 c =
+    let k = c .before in
+    let a = k .before .before .before .before .before .before .args in
+    let h = refused k in
+    refuses (k .o .given .0 .0) _ _ (a .queue .now) (a .out .now) (one-refused (a .file .now) (a .out .now) _ (h .0) (h .1) (a .n)) (h .1)
+
+same-length : tie.Need-same-length
+same-length c = search needs
+
+same-length-2 : tie.Need-same-length-2
+same-length-2 c = search needs
+
+returns-4 : tie.Need-returns-4
+returns-4 c =
+    let k = c .before .before .before .before .before .before .before .before .before .before in
+    let a = k .before .before .before .before .before .before .args in
+    let h = holds k in
+    let d = at-place (a .file .now) (a .n) (h .starts) (c .before .before .before .before .answer-at .ensures) in
+    answers (one-good (a .file .now) (a .out .now) (h .none) (a .n) (omega (arith, h .counts)) (omega arith)) (d .told) (d .left)
+
+pub answer-one-spec : {M : Type 1} → statement M
+answer-one-spec =
+    tie.close
+    (tie.spec
+    open-file-requires
+    enum-known-o
+    enum-known-o-2
+    returns
+    returns-2
+    mul-answer-at
+    add-answer-at
+    answer-at-requires
+    returns-3
+    same-length
+    same-length-2
+    returns-4)

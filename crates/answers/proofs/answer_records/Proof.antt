@@ -1,0 +1,68 @@
+-- `answers::answer_records` meets its contract: record after record. Assumes nothing.
+use Prim.Native.Nat.{_-_}
+use native.Mathlib.Omega.{arith}
+use Rattle.answers.proofs.Walking.{Walked, walked-none, walked-more, walked-all}
+use Rattle.answers.proofs.answer_records.Statement.{statement}
+use Rattle.answers.proofs.answer_records.Tie as tie
+
+abbrev Inv-loop : tie.InvT-loop
+Inv-loop file first count queue₀ out₀ clean₀ i₀ queue out clean i = Walked file first count queue₀ out₀ queue out clean i
+
+abbrev μ-loop : tie.MeasureT-loop
+μ-loop file first count queue₀ out₀ clean₀ i₀ queue out clean i = count - i
+
+loop-holds : tie.Need-loop-holds Inv-loop μ-loop
+loop-holds c = walked-none _ _ _ _ _
+
+mul-answer-at : tie.Need-mul-answer-at Inv-loop μ-loop
+mul-answer-at c = omega arith
+
+add-answer-at : tie.Need-add-answer-at Inv-loop μ-loop
+add-answer-at c = omega arith
+
+mul-answer-at-2 : tie.Need-mul-answer-at-2 Inv-loop μ-loop
+mul-answer-at-2 c = omega arith
+
+answer-at-requires : tie.Need-answer-at-requires Inv-loop μ-loop
+answer-at-requires c κs =
+    let w = c .before .before .before .loop .inv in
+    record { there = omega arith; room = omega (arith, w .numbers); zero = w .zero }
+
+add-i : tie.Need-add-i Inv-loop μ-loop
+add-i c = omega arith
+
+loop-less : tie.Need-loop-less Inv-loop μ-loop
+loop-less c = omega arith
+
+loop-again : tie.Need-loop-again Inv-loop μ-loop
+loop-again c =
+    let l = c .before .before .before .before .before .before .before .before in
+    let k = c .before .before .before .before .before .before .before .before .before .before .before .before in
+    walked-more (l .loop .inv) (omega arith) (k .pre .1) (c .before .before .before .before .answer-at .ensures)
+
+same-length : tie.Need-same-length Inv-loop μ-loop
+same-length c = c .before .loop .inv .words
+
+same-length-2 : tie.Need-same-length-2 Inv-loop μ-loop
+same-length-2 c = c .before .loop .inv .numbers
+
+returns : tie.Need-returns Inv-loop μ-loop
+returns c = walked-all (c .before .loop .inv) (omega arith)
+
+pub answer-records-spec : {M : Type 1} → statement M
+answer-records-spec =
+    tie.close
+    (tie.spec
+    Inv-loop
+    μ-loop
+    loop-holds
+    mul-answer-at
+    add-answer-at
+    mul-answer-at-2
+    answer-at-requires
+    add-i
+    loop-less
+    loop-again
+    same-length
+    same-length-2
+    returns)

@@ -1,0 +1,4 @@
+-- What is told of a query file's records, and what is left of the lent queue.
+pub mod Eight
+pub mod Walk
+pub mod Step

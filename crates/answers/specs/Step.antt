@@ -1,0 +1,31 @@
+-- One record of the walk: what it asks and what it leaves.
+use Prim.Native.Nat.{ℕ, _+_, _≤_}
+use mathlib.Core.Path.{_≡_}
+use mathlib.Core.Bool.{Bool, true, false}
+use mathlib.Core.List.{List}
+use lib.ListN.{length}
+use Rattle.rules.specs.declared.Answer.{Answer}
+use Rattle.rules.specs.declared.Answer.the-variants.{Met, Clear, Spent, Room, Floor, Refused}
+use Rattle.rules.specs.Answers.{queueAfter}
+use Rattle.rules.specs.Search.{search}
+use Rattle.rules.specs.QueryFile.{recordAt, put}
+use Rattle.search.specs.Levels.{Clean}
+use Rattle.answers.specs.Walk.{tells}
+
+abbrev pub isAnswered : Answer → Bool
+isAnswered (Met t u v excess count) = true
+isAnswered (Clear count) = true
+isAnswered (Spent t u v excess count) = true
+isAnswered (Room t u v excess count) = true
+isAnswered (Floor t u v excess count) = true
+isAnswered (Refused number) = false
+
+pub record Answering (s : List ℕ) (at : ℕ) (queue : List ℕ) (clean : Bool) (out : List ℕ) (to : ℕ) : Type 0 where
+  pub there : at + 116 ≤ length s
+  pub room : to + 8 ≤ length out
+  pub zero : Clean clean queue
+
+pub record Answered (s : List ℕ) (at : ℕ) (queue queue′ : List ℕ) (clean : Bool) (out : List ℕ) (to : ℕ) (out′ : List ℕ) (clean′ : Bool) : Type 0 where
+  pub told : out′ ≡ put out to (tells (recordAt s at) (length queue))
+  pub left : queue′ ≡ queueAfter (search (recordAt s at) (length queue)) queue
+  pub zero : Clean clean′ queue′

@@ -1,0 +1,73 @@
+-- The records of a file searched one after the other, each as if it were alone.
+use Prim.Native.Nat.{ℕ, zero, suc, _+_, _*_}
+use mathlib.Core.Path.{_≡_}
+use mathlib.Core.Bool.{Bool, not}
+use mathlib.Core.List.{List, [], _∷_, _++_}
+use lib.Dec.{ltb}
+use lib.ListN.{length, getD}
+use Rattle.rules.specs.declared.Record.{Record}
+use Rattle.rules.specs.Answers.{told, queueAfter}
+use Rattle.rules.specs.Refusals.{Case, first}
+use Rattle.rules.specs.Search.{search}
+use Rattle.rules.specs.QueryFile.{recordAt, queryForm, trailerPlace, backPointer, recordCount, placeOf, openCases, putUnless}
+use Rattle.answers.specs.Eight.{eight}
+
+-- what is told of a record that is searched with so many words
+unfoldable pub tells : Record → ℕ → List ℕ
+tells r words = eight (r .id) (told (search r words))
+
+-- of n records, the first at a place
+unfoldable pub tellsFrom : List ℕ → ℕ → ℕ → ℕ → List ℕ
+tellsFrom s words zero at = []
+tellsFrom s words (suc n) at = tells (recordAt s at) words ++ tellsFrom s words n (at + 116)
+
+-- the queue after them: each leaves it as the search does
+unfoldable pub queueFrom : List ℕ → ℕ → ℕ → List ℕ → List ℕ
+queueFrom s zero at queue = queue
+queueFrom s (suc n) at queue = queueFrom s n (at + 116) (queueAfter (search (recordAt s at) (length queue)) queue)
+
+-- 14: fewer numbers are lent than are to be told
+abbrev pub short : List ℕ → ℕ → Case
+short out n = record { number = 14; due = ltb (length out) n }
+
+-- a refused question leaves the queue
+unfoldable pub queueUnless : ℕ → List ℕ → List ℕ → List ℕ
+queueUnless zero before after = after
+queueUnless (suc k) before after = before
+
+-- what a question does: the number that comes back (0: it is not refused), what is told from the first place on, and what is left of the queue
+pub record Does (refusal : ℕ) (numbers after queue queue′ out out′ : List ℕ) (number : ℕ) : Type 0 where
+  pub says : number ≡ refusal
+  pub told : out′ ≡ putUnless number out 0 numbers
+  pub left : queue′ ≡ queueUnless number queue after
+
+-- ---- record n of a file
+
+-- 8 to 13, then 14
+unfoldable pub oneRefusal : List ℕ → ℕ → List ℕ → ℕ
+oneRefusal s n out = first (openCases queryForm s ++ (record { number = 13; due = not (ltb n (recordCount s)) } ∷ short out 8 ∷ []))
+
+abbrev pub One : List ℕ → ℕ → List ℕ → List ℕ → List ℕ → List ℕ → ℕ → Type 0
+One s n queue queue′ out out′ number =
+    let r : Record = recordAt s (placeOf s n) in
+    Does (oneRefusal s n out) (tells r (length queue)) (queueAfter (search r (length queue)) queue) queue queue′ out out′ number
+
+-- ---- every record of a file
+
+-- 8 to 12, then 14
+unfoldable pub allRefusal : List ℕ → List ℕ → ℕ
+allRefusal s out = first (openCases queryForm s ++ (short out (8 * recordCount s) ∷ []))
+
+abbrev pub Every : List ℕ → List ℕ → List ℕ → List ℕ → List ℕ → ℕ → Type 0
+Every s queue queue′ out out′ number =
+    Does (allRefusal s out) (tellsFrom s (length queue) (recordCount s) (placeOf s 0)) (queueFrom s (recordCount s) (placeOf s 0) queue) queue queue′ out out′ number
+
+-- ---- how many records a file has
+
+-- 8 to 12, then 14
+unfoldable pub countRefusal : List ℕ → List ℕ → ℕ
+countRefusal s out = first (openCases queryForm s ++ (short out 1 ∷ []))
+
+pub record Counted (s out out′ : List ℕ) (number : ℕ) : Type 0 where
+  pub says : number ≡ countRefusal s out
+  pub told : out′ ≡ putUnless number out 0 (recordCount s ∷ [])

@@ -1,0 +1,46 @@
+/* Taperhive for a controller: the queries of a file, searched and told in numbers.
+ *
+ * Build: rt staticlib controller, then link target/staticlib/libcontroller.a (x86-64 Linux).
+ * Every function may be called with any bytes, any numbers and any lengths; nothing is left for the caller to check first. A pointer must
+ * reach as many elements as the length behind it says, and the buffers of one call must not overlap. No function allocates, keeps anything between calls, or
+ * fails in any other way than by the number that it returns.
+ *
+ * What is told of a record are eight numbers: id, word, t, u, v, excess, count, refusal number.
+ *   word    0 refused, 1 MET, 2 CLEAR, 3 SPENT, 4 ROOM, 5 FLOOR
+ *   t, u, v the recorded moment and place in 1/1,048,576 parts (0 for CLEAR and a refused record)
+ *   excess  how far beyond the separation the gap is there, in units of 1/8 mm, rounded up
+ *   count   boxes checked
+ *   refusal number   1 KIND, 2 FLAGS, 3 COORD, 4 SEPARATION, 5 TOLERANCE, 6 BUDGET, 7 QUEUE for a refused record, else 0
+ * Numbers that an answer does not carry are 0.
+ *
+ * What is returned: 0, or why nothing was done: 8 SHORT, 9 MARK, 10 EDITION, 11 COUNT, 12 BACK of the file, 13 INDEX of the record number,
+ * 14 SPACE where fewer numbers are lent than are to be told; the lowest. Then nothing that was lent is changed.
+ */
+#ifndef TAPERHIVE_H
+#define TAPERHIVE_H
+
+#include <stddef.h>
+#include <stdint.h>
+
+#ifdef __cplusplus
+extern "C" {
+#endif
+
+enum { TAPERHIVE_REFUSED, TAPERHIVE_MET, TAPERHIVE_CLEAR, TAPERHIVE_SPENT, TAPERHIVE_ROOM, TAPERHIVE_FLOOR };
+enum { TAPERHIVE_ID, TAPERHIVE_WORD, TAPERHIVE_T, TAPERHIVE_U, TAPERHIVE_V, TAPERHIVE_EXCESS, TAPERHIVE_COUNT, TAPERHIVE_NUMBER, TAPERHIVE_TOLD };
+
+/* Record n of the file. told's first eight numbers are written. The lent queue is as it was where the record is refused, and all zero where it is
+ * answered; 2 to 1,048,576 words are taken, and what they hold does not matter. */
+uint32_t taperhive_answer(const uint8_t *file, size_t file_len, size_t n, uint64_t *queue, size_t queue_len, uint32_t *told, size_t told_len);
+
+/* Every record of the file in order, eight numbers each, each as taperhive_answer tells it; a refused record takes its eight numbers and the walk goes on. The
+ * queue is cleared once, not once a record: it is all zero afterwards where some record was answered, and as it was where none was. */
+uint32_t taperhive_answers(const uint8_t *file, size_t file_len, uint64_t *queue, size_t queue_len, uint32_t *told, size_t told_len);
+
+/* How many records the file has, into told[0]. */
+uint32_t taperhive_count(const uint8_t *file, size_t file_len, uint32_t *told, size_t told_len);
+
+#ifdef __cplusplus
+}
+#endif
+#endif
