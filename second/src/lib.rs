@@ -8,6 +8,7 @@ pub mod gen;
 pub mod record;
 pub mod refusals;
 pub mod rng;
+pub mod script;
 pub mod search;
 pub mod text;
 pub mod told;

@@ -4,6 +4,7 @@ use std::io::{Read, Write};
 use std::process::ExitCode;
 
 use second::gen::{flavours, generate, queries::queries, words::words};
+use second::script;
 use second::text::{sweep, MOST_INPUT, SWEEP_WORDS};
 
 const USAGE: &str = "\
@@ -11,7 +12,8 @@ usage: second sweep [WORDS]         answers the query file on standard input
        second gen SEED FLAVOUR      writes a query file
        second flavours              lists the flavours
        second words SEED FLAVOUR    queue lengths worth trying on that file
-       second queries SEED N        cheap queries and their answers, one a line";
+       second queries SEED N        cheap queries and their answers, one a line
+       second write                 makes a query file of the text on standard input";
 
 fn main() -> ExitCode {
     let arguments: Vec<String> = std::env::args().skip(1).collect();
@@ -36,6 +38,7 @@ fn run(arguments: &[&str]) -> Option<Vec<u8>> {
         ["queries", seed, number] => {
             Some(queries(seed.parse().ok()?, number.parse().ok()?).into_bytes())
         }
+        ["write"] => script::write(&String::from_utf8(input()).ok()?).ok(),
         _ => None,
     }
 }

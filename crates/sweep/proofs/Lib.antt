@@ -1,0 +1,2 @@
+-- What the proofs of `sweep` cite.
+pub mod Paging

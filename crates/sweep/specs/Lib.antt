@@ -1,0 +1,2 @@
+-- What `sweep` prints of its input.
+pub mod Page
