@@ -6,7 +6,7 @@ use Prim.Native.Nat.{ℕ, _+_, _≤_, _<_}
 use native.Mathlib.Nat.{add-assoc}
 use native.Mathlib.Omega.{arith}
 use lib.ListN.{length, set, take, drop, length-set, length-drop, length-append, length-map}
-use lib.Seq.{take-take, take-set-le, drop-set-add, drop-set-lt, length-take-le, take-suc-set}
+use lib.Seq.{take-take, take-set-le, drop-set-add, drop-set-lt, length-take-le, take-at, take-suc-set}
 use native.Mathlib.Numerals.{add-one}
 use Rattle.rules.specs.declared.Parameter.{Parameter}
 use Rattle.rules.specs.Search.{Query, Box, Depths, halves}
@@ -15,7 +15,7 @@ use Rattle.queue.specs.declared.Pick.{Pick}
 use Rattle.queue.specs.declared.Next.the-variants.{Room, Level}
 use Rattle.queue.specs.All.{All, all-snoc}
 use Rattle.queue.specs.Walk.{put, same-after}
-use Rattle.queue.specs.Level.{OfLevel, halvesFrom, Picked, NextIs}
+use Rattle.queue.specs.Level.{OfLevel, halvesFrom, Picked, Placed, NextIs}
 use Rattle.queue.proofs.Merging.{none-left}
 
 -- what is written, and then the halves that are left, is the next level; the words below h and beyond the written ones are as they were
@@ -47,6 +47,15 @@ module _ (q : Query) (k : Depths) (p : Parameter) (n h : ℕ) (old : List ℕ) (
     length-part b rest =
         rw (length-append, length-map, length-take-le m (drop h new) (rw (length-drop h new) (omega (arith, w .len)))) (omega arith)
 
+    -- what is written are the first of the boxes
+    first-placed : (rest : List Box) → map boxOf (take m (drop h new)) ++ rest ≡ whole → Placed h m k (take m whole) old new
+    first-placed rest e = record {
+      fits = w .room;
+      placed = rw (← e) (sym (take-at (map boxOf (take m (drop h new))) rest m (length-map (take m (drop h new)) boxOf ∙ length-take-le m (drop h new) (rw (length-drop h new) (omega (arith, w .len))))));
+      grid = w .grid;
+      beyond = w .beyond;
+    }
+
     module _ (r : Pick) (x : Picked q k p (take n new) i j r) where
       picked : Picked q k p (take n old) i j r
       picked = rw same-part at x
@@ -76,13 +85,13 @@ module _ (q : Query) (k : Depths) (p : Parameter) (n h : ℕ) (old : List ℕ) (
             len = length-set new (h + m) (r .word) ∙ w .len;
             source = take-set-le h new (h + m) (r .word) (omega arith) ∙ w .source;
             beyond = rw (← add-assoc h m 1) (drop-set-lt (h + m + 1) new (h + m) (r .word) (omega arith) ∙ same-after (h + m) new old (w .beyond));
-            grid = rw (drop-set-add h new m (r .word), add-one m, take-suc-set (drop h new) m (r .word) long) (all-snoc (OfLevel k) (take m (drop h new)) (r .word) (w .grid) (x .box));
+            grid = rw (drop-set-add h new m (r .word), add-one m, take-suc-set (drop h new) m (r .word) long) (all-snoc (OfLevel k) (take m (drop h new)) (r .word) (w .grid) (x .of-level));
             done = rw (drop-set-add h new m (r .word)) (put m (drop h new) (r .word) _ long ∙ next true e);
           }
 
       -- a half that has no room is one too many
       pub no-room : r .stays ≡ true → m ≡ h → NextIs h k whole old new Room
-      no-room e l = (rw (← next true e) (omega (arith, length-part (boxOf (r .word)) (halvesFrom q k p (take n old) (r .i) (r .j)))), rw (l) at (w .beyond))
+      no-room e l = (rw (← next true e) (omega (arith, length-part (boxOf (r .word)) (halvesFrom q k p (take n old) (r .i) (r .j)))), rw l at (first-placed (boxOf (r .word) ∷ halvesFrom q k p (take n old) (r .i) (r .j)) (next true e)))
 
     pub all-placed : n + n ≤ i + j → NextIs h k whole old new (Level m)
     all-placed past = record {

@@ -16,7 +16,7 @@ use Rattle.boxes.specs.Boxes.{boxOf}
 use Rattle.boxes.specs.Words.{same-order}
 use Rattle.queue.specs.declared.Pick.{Pick}
 use Rattle.queue.specs.All.{all-front}
-use Rattle.queue.specs.Grid.{fits-grid}
+use Rattle.queue.specs.Grid.{fits-grid, stored-of-level}
 use Rattle.queue.specs.Level.{Splits, PickIs, Picks, Picked, halvesFrom}
 use Rattle.queue.proofs.Merging.{step-last-high, step-pass-low, step-last-low, step-pass-high, step-low, step-high}
 
@@ -42,7 +42,7 @@ module _ (p : Pair) (k : Depths) (split : Parameter) (queue : List ℕ) (n i j :
       → To r
   via-low r h l e = record {
     halves = rw (h .box, h .i-is, h .j-is) e;
-    box = rw (h .box) (splits i l .0);
+    of-level = stored-of-level k lowBox (r .word) (x .shallow) (splits i l .0) (h .word) (h .box);
     one-more = omega (arith, h .i-is, h .j-is);
     i-le = omega (arith, long, h .i-is);
     j-le = omega (arith, long, h .j-is, x .j-le);
@@ -54,7 +54,7 @@ module _ (p : Pair) (k : Depths) (split : Parameter) (queue : List ℕ) (n i j :
       → To r
   via-high r h l e = record {
     halves = rw (h .box, h .i-is, h .j-is) e;
-    box = rw (h .box) (splits j l .1);
+    of-level = stored-of-level k highBox (r .word) (x .shallow) (splits j l .1) (h .word) (h .box);
     one-more = omega (arith, h .i-is, h .j-is);
     i-le = omega (arith, long, h .i-is, x .i-le);
     j-le = omega (arith, long, h .j-is);

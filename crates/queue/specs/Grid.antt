@@ -7,9 +7,9 @@ use native.Mathlib.Omega.{arith}
 use lib.Pow.{pow-mono}
 use Rattle.rules.specs.declared.Parameter.{Parameter}
 use Rattle.rules.specs.declared.Parameter.the-variants.{InT, InU, InV}
-use Rattle.rules.specs.Search.{Box, Depths, deeper}
+use Rattle.rules.specs.Search.{Box, Depths, stored, deeper}
 use Rattle.kernel.specs.Ranges.{Shallow, InGrid}
-use Rattle.boxes.specs.Boxes.{Fits}
+use Rattle.boxes.specs.Boxes.{boxOf, Fits}
 use Rattle.queue.specs.Level.{OfLevel, Splits}
 
 pub fits-grid : (k : Depths) (b : Box) → Shallow k → InGrid k b → Fits b
@@ -22,6 +22,10 @@ fits-grid k b s g = record {
 double : (k : ℕ) → 2 ^ (k + 1) ≡ 2 * 2 ^ k
 double k = rw (add-one, pow-suc) (omega arith)
 
+-- a word of a box of the level
+pub stored-of-level : (k : Depths) (b : Box) (w : ℕ) → Shallow k → InGrid k b → w ≡ stored b → boxOf w ≡ b → OfLevel k w
+stored-of-level k b w s g e f = let h = fits-grid k b s g in record { grid = rw f g; fits = omega (arith, e, h .t, h .u, h .v) }
+
 -- one bit more
 more-low : (i k : ℕ) → i < 2 ^ k → 2 * i < 2 ^ (k + 1)
 more-low i k h = omega (arith, double k)
@@ -30,6 +34,6 @@ more-high : (i k : ℕ) → i < 2 ^ k → 2 * i + 1 < 2 ^ (k + 1)
 more-high i k h = omega (arith, double k)
 
 pub splits-grid : (p : Parameter) (k : Depths) (w : ℕ) → OfLevel k w → Splits (deeper p k) p w
-splits-grid InT k w g = (record { t = more-low _ _ (g .t); u = g .u; v = g .v }, record { t = more-high _ _ (g .t); u = g .u; v = g .v })
-splits-grid InU k w g = (record { t = g .t; u = more-low _ _ (g .u); v = g .v }, record { t = g .t; u = more-high _ _ (g .u); v = g .v })
-splits-grid InV k w g = (record { t = g .t; u = g .u; v = more-low _ _ (g .v) }, record { t = g .t; u = g .u; v = more-high _ _ (g .v) })
+splits-grid InT k w g = (record { t = more-low _ _ (g .grid .t); u = g .grid .u; v = g .grid .v }, record { t = more-high _ _ (g .grid .t); u = g .grid .u; v = g .grid .v })
+splits-grid InU k w g = (record { t = g .grid .t; u = more-low _ _ (g .grid .u); v = g .grid .v }, record { t = g .grid .t; u = more-high _ _ (g .grid .u); v = g .grid .v })
+splits-grid InV k w g = (record { t = g .grid .t; u = g .grid .u; v = more-low _ _ (g .grid .v) }, record { t = g .grid .t; u = g .grid .u; v = more-high _ _ (g .grid .v) })

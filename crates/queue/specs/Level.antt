@@ -15,9 +15,10 @@ use Rattle.queue.specs.declared.Next.{Next}
 use Rattle.queue.specs.declared.Next.the-variants.{Room, Level}
 use Rattle.queue.specs.All.{All}
 
--- the word is a box of the level of depths k
-abbrev pub OfLevel : Depths → ℕ → Type 0
-OfLevel k w = InGrid k (boxOf w)
+-- the word is that of a box of the level of depths k
+pub record OfLevel (k : Depths) (w : ℕ) : Type 0 where
+  pub grid : InGrid k (boxOf w)
+  pub fits : w < 2 ^ 60
 
 -- both halves of the box are boxes of the level of depths k
 abbrev pub Splits : Depths → Parameter → ℕ → Type 0
@@ -55,7 +56,7 @@ pub record Picks (k : Depths) (split : Parameter) (queue : List ℕ) (n i j : �
 
 pub record Picked (q : Query) (k : Depths) (split : Parameter) (words : List ℕ) (i j : ℕ) (r : Pick) : Type 0 where
   pub halves : halvesFrom q k split words i j ≡ cond (r .stays) (boxOf (r .word) ∷ halvesFrom q k split words (r .i) (r .j)) (halvesFrom q k split words (r .i) (r .j))
-  pub box : InGrid k (boxOf (r .word))
+  pub of-level : OfLevel k (r .word)
   pub one-more : r .i + r .j ≡ i + j + 1
   pub i-le : r .i ≤ length words
   pub j-le : r .j ≤ length words
@@ -75,9 +76,9 @@ pub record Placed (h m : ℕ) (k : Depths) (boxes : List Box) (old new : List �
   pub grid : All (OfLevel k) (take m (drop h new))
   pub beyond : drop (h + m) new ≡ drop (h + m) old
 
--- more boxes than there is room for, or a level that is placed
+-- more boxes than there is room for, of which the first h are placed, or a level that is placed
 abbrev pub NextIs : ℕ → Depths → List Box → List ℕ → List ℕ → Next → Type 0
-NextIs h k boxes old new Room = (h < length boxes) × (drop (h + h) new ≡ drop (h + h) old)
+NextIs h k boxes old new Room = (h < length boxes) × Placed h h k (take h boxes) old new
 NextIs h k boxes old new (Level m) = Placed h m k boxes old new
 
 pub record Grown (p : Pair) (k : Depths) (split : Parameter) (n : ℕ) (old new : List ℕ) (r : Next) : Type 0 where

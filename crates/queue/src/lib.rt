@@ -3,7 +3,7 @@ ghost use mathlib.Core.Path.{_≡_};
 ghost use mathlib.Core.List.{_++_};
 ghost use Prim.Native.Nat.{_+_, _≤_};
 ghost use lib.ListN.{length, take, drop, replicate};
-ghost use Rattle.rules.specs.Search.{stored, lowHalf, highHalf, inside};
+ghost use Rattle.rules.specs.Search.{lowHalf, highHalf};
 ghost use Rattle.kernel.specs.Kernel.{asked};
 ghost use Rattle.boxes.specs.Boxes.{boxOf};
 ghost use Rattle.queue.specs.Cleared.{cleared};

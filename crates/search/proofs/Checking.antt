@@ -131,11 +131,14 @@ module _ (p : Pair) (l : Level) (old : List ℕ) (fine : Fine p old l) where
       abbrev rest : List Box
       rest = map boxOf (drop (i + 1) (take (l .size) old))
 
+      of-level : OfLevel (l .depths) (getD new i 0)
+      of-level = rw (same-at i new old (k .unread)) (all-front (OfLevel (l .depths)) old (l .size) i fits (fine .grid) more)
+
       pub one-box : OneBox p (l .depths) box
       one-box = record {
         ranged = fine .ranged;
         shallow = fine .shallow;
-        grid = rw (same-at i new old (k .unread)) (all-front (OfLevel (l .depths)) old (l .size) i fits (fine .grid) more);
+        grid = of-level .grid;
       }
 
       opened : drop i (take (l .size) old) ≡ getD new i 0 ∷ drop (i + 1) (take (l .size) old)
@@ -175,7 +178,7 @@ module _ (p : Pair) (l : Level) (old : List ℕ) (fine : Fine p old l) where
             len = length-set new m (getD new i 0) ∙ k .len;
             within = omega (arith, x .within);
             unread = drop-set-lt (i + 1) new m (getD new i 0) (omega (arith, k .m-le)) ∙ same-after i new old (k .unread);
-            grid = rw (add-one m, take-suc-set new m (getD new i 0) long) (all-snoc (OfLevel (l .depths)) (take m new) (getD new i 0) (k .grid) (one-box .grid));
+            grid = rw (add-one m, take-suc-set new m (getD new i 0) long) (all-snoc (OfLevel (l .depths)) (take m new) (getD new i 0) (k .grid) of-level);
             not-full = λ h. still-full (ltb 0 m) refl (x .not-full);
             done = rw (lt-ltb 0 (m + 1) (omega arith), add-one m, take-suc-set new m (getD new i 0) long, map-append) (pre-more (map boxOf (take m new)) box (check (asked p) (l .depths) rest true d (count + 1)) ∙ next (Survives d) x);
           }

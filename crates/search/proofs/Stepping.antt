@@ -71,7 +71,7 @@ module _ (p : Pair) (l : Level) (old : List ℕ) (x : Splitting p old l) where
     unfolding ifRoom
     splits-room g e = record {
       says = λ go. after go ∙ rw (lt-leb (length new) (p .room) (g .next .0));
-      after = (tt, rw e (tidy-back (p .room) (l .used) q₂ old (omega (arith, len, x .fine .twice)) (g .kept) (g .next .1) (x .fine .tidy)));
+      after = (tt, rw e (tidy-back (p .room) (l .used) q₂ old (omega (arith, len, x .fine .twice)) (g .kept) (g .next .1 .beyond) (x .fine .tidy)));
     }
 
     module _ (m used : ℕ) (g : Grown p depths parameter (l .size) old q₂ (Places m)) (copied : q₃ ≡ take m (drop (p .room) q₂) ++ drop m q₂)
