@@ -25,7 +25,8 @@ same-length c = search needs
 returns : tie.Need-returns
 returns c =
     let s = c .before .before .before .before .before in
-    cleared-part (s .args .start) (s .args .end) (s .args .words .now) (s .pre .0) (s .pre .1) (c .before .before .clear .last .0) (c .before .before .clear .ensures)
+    let at-clear = c .before .before .clear in
+    cleared-part (s .args .start) (s .args .end) (s .args .words .now) (s .pre .0) (s .pre .1) (at-clear .last .0) (at-clear .ensures)
 
 pub clear-part-spec : {M : Type 1} → statement M
 clear-part-spec =

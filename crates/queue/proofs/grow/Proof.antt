@@ -16,7 +16,8 @@ abbrev μ-loop : tie.MeasureT-loop
 loop-holds : tie.Need-loop-holds Inv-loop μ-loop
 loop-holds c =
     let s = c .before in
-    written-none (asked (s .args .p)) (s .args .k) (s .args .split) (s .args .n) (s .args .p .room) (s .args .queue .now) (s .pre .fits) (s .pre .twice)
+    written-none (asked (s .args .p)) (s .args .k) (s .args .split) (s .args .n) (s .args .p .room) (s .args .queue .now) (s .pre .fits)
+    (s .pre .twice)
 
 add-loop : tie.Need-add-loop Inv-loop μ-loop
 add-loop c = omega arith
@@ -48,7 +49,9 @@ unfolding halves
 returns c =
     let s = c .before .before .before .before .before .before .before in
     let l = c .before .before .before .before .before .loop in
-    record { next = no-room (asked (s .args .p)) (s .args .k) (s .args .split) (s .args .n) (s .args .p .room) (s .args .queue .now) (s .pre .fits) (s .pre .twice) (l .queue) (l .i) (l .j) (l .m) (l .inv) (c .before .before .next-half .result) (c .before .before .next-half .ensures) (c .before .if1 .taken) (c .if2 .taken); kept = l .inv .source }
+    let at-next-half = c .before .before .next-half in
+    record
+    { next = no-room (asked (s .args .p)) (s .args .k) (s .args .split) (s .args .n) (s .args .p .room) (s .args .queue .now) (s .pre .fits) (s .pre .twice) (l .queue) (l .i) (l .j) (l .m) (l .inv) (at-next-half .result) (at-next-half .ensures) (c .before .if1 .taken) (c .if2 .taken); kept = l .inv .source }
 
 add-queue : tie.Need-add-queue Inv-loop μ-loop
 add-queue c = omega arith
@@ -70,7 +73,10 @@ loop-again : tie.Need-loop-again Inv-loop μ-loop
 loop-again c =
     let s = c .before .before .before .before .before .before .before in
     let l = c .before .before .before .before .before .loop in
-    written-put (asked (s .args .p)) (s .args .k) (s .args .split) (s .args .n) (s .args .p .room) (s .args .queue .now) (s .pre .fits) (s .pre .twice) (l .queue) (l .i) (l .j) (l .m) (l .inv) (c .before .before .next-half .result) (c .before .before .next-half .ensures) (c .before .if1 .taken) (omega (arith, l .inv .room, c .if2 .left))
+    let at-next-half = c .before .before .next-half in
+    written-put (asked (s .args .p)) (s .args .k) (s .args .split) (s .args .n) (s .args .p .room) (s .args .queue .now) (s .pre .fits)
+    (s .pre .twice) (l .queue) (l .i) (l .j) (l .m) (l .inv) (at-next-half .result) (at-next-half .ensures) (c .before .if1 .taken)
+    (omega (arith, l .inv .room, c .if2 .left))
 
 loop-less-2 : tie.Need-loop-less-2 Inv-loop μ-loop
 loop-less-2 c =
@@ -80,7 +86,8 @@ loop-again-2 : tie.Need-loop-again-2 Inv-loop μ-loop
 loop-again-2 c =
     let s = c .before .before .before .before .before .before in
     let l = c .before .before .before .before .loop in
-    written-pass (asked (s .args .p)) (s .args .k) (s .args .split) (s .args .n) (s .args .p .room) (s .args .queue .now) (s .pre .fits) (s .pre .twice) (l .queue) (l .i) (l .j) (l .m) (l .inv) (c .before .next-half .result) (c .before .next-half .ensures) (c .if1 .left)
+    written-pass (asked (s .args .p)) (s .args .k) (s .args .split) (s .args .n) (s .args .p .room) (s .args .queue .now) (s .pre .fits)
+    (s .pre .twice) (l .queue) (l .i) (l .j) (l .m) (l .inv) (c .before .next-half .result) (c .before .next-half .ensures) (c .if1 .left)
 
 same-length-2 : tie.Need-same-length-2 Inv-loop μ-loop
 same-length-2 c =
@@ -92,7 +99,8 @@ unfolding halves
 returns-2 c =
     let s = c .before .before .before in
     let l = c .before .loop in
-    record { next = all-placed (asked (s .args .p)) (s .args .k) (s .args .split) (s .args .n) (s .args .p .room) (s .args .queue .now) (s .pre .fits) (s .pre .twice) (l .queue) (l .i) (l .j) (l .m) (l .inv) (c .loop-test .left); kept = l .inv .source }
+    record
+    { next = all-placed (asked (s .args .p)) (s .args .k) (s .args .split) (s .args .n) (s .args .p .room) (s .args .queue .now) (s .pre .fits) (s .pre .twice) (l .queue) (l .i) (l .j) (l .m) (l .inv) (c .loop-test .left); kept = l .inv .source }
 
 pub grow-spec : {M : Type 1} → statement M
 grow-spec =

@@ -25,7 +25,9 @@ high-of-requires c κs =
 returns : tie.Need-returns
 returns c =
     let s = c .before .before .before .before in
-    pick-last-high (s .args .p) (s .args .k) (s .args .split) (s .args .queue .now) (s .args .n) (s .args .i) (s .args .j) (s .pre) (c .high-of .result) (c .high-of .ensures) (c .before .before .if1 .taken)
+    let at-if1 = c .before .before .if1 in
+    pick-last-high (s .args .p) (s .args .k) (s .args .split) (s .args .queue .now) (s .args .n) (s .args .i) (s .args .j) (s .pre)
+    (c .high-of .result) (c .high-of .ensures) (at-if1 .taken)
 
 mul-low-of : tie.Need-mul-low-of
 mul-low-of c = search needs
@@ -46,12 +48,18 @@ low-of-requires c κs =
 returns-2 : tie.Need-returns-2
 returns-2 c =
     let s = c .before .before .before .before .before .before in
-    pick-pass-low (s .args .p) (s .args .k) (s .args .split) (s .args .queue .now) (s .args .n) (s .args .i) (s .args .j) (s .pre) (c .before .before .before .before .if1 .left) (c .before .before .low-of .result) (c .before .before .low-of .ensures) (not-true _ (c .if2 .taken))
+    let at-if1 = c .before .before .before .before .if1 in
+    let at-low-of = c .before .before .low-of in
+    pick-pass-low (s .args .p) (s .args .k) (s .args .split) (s .args .queue .now) (s .args .n) (s .args .i) (s .args .j) (s .pre) (at-if1 .left)
+    (at-low-of .result) (at-low-of .ensures) (not-true _ (c .if2 .taken))
 
 returns-3 : tie.Need-returns-3
 returns-3 c =
     let s = c .before .before .before .before .before .before .before in
-    pick-last-low (s .args .p) (s .args .k) (s .args .split) (s .args .queue .now) (s .args .n) (s .args .i) (s .args .j) (s .pre) (c .before .before .before .before .before .if1 .left) (c .before .before .before .low-of .result) (c .before .before .before .low-of .ensures) (not-false _ (c .before .if2 .left)) (c .if3 .taken)
+    let at-if1 = c .before .before .before .before .before .if1 in
+    let at-low-of = c .before .before .before .low-of in
+    pick-last-low (s .args .p) (s .args .k) (s .args .split) (s .args .queue .now) (s .args .n) (s .args .i) (s .args .j) (s .pre) (at-if1 .left)
+    (at-low-of .result) (at-low-of .ensures) (not-false _ (c .before .if2 .left)) (c .if3 .taken)
 
 mul-high-of-2 : tie.Need-mul-high-of-2
 mul-high-of-2 c = search needs
@@ -72,17 +80,40 @@ high-of-requires-2 c κs =
 returns-4 : tie.Need-returns-4
 returns-4 c =
     let s = c .before .before .before .before .before .before .before .before .before .before .before in
-    pick-pass-high (s .args .p) (s .args .k) (s .args .split) (s .args .queue .now) (s .args .n) (s .args .i) (s .args .j) (s .pre) (c .before .before .before .before .before .before .before .before .before .if1 .left) (c .before .before .before .before .before .before .before .low-of .result) (c .before .before .before .before .before .before .before .low-of .ensures) (not-false _ (c .before .before .before .before .before .if2 .left)) (c .before .before .before .before .if3 .left) (c .before .before .high-of2 .result) (c .before .before .high-of2 .ensures) (not-true _ (c .if4 .taken))
+    let at-if1 = c .before .before .before .before .before .before .before .before .before .if1 in
+    let at-low-of = c .before .before .before .before .before .before .before .low-of in
+    let at-if2 = c .before .before .before .before .before .if2 in
+    let at-if3 = c .before .before .before .before .if3 in
+    let at-high-of2 = c .before .before .high-of2 in
+    pick-pass-high (s .args .p) (s .args .k) (s .args .split) (s .args .queue .now) (s .args .n) (s .args .i) (s .args .j) (s .pre) (at-if1 .left)
+    (at-low-of .result) (at-low-of .ensures) (not-false _ (at-if2 .left)) (at-if3 .left) (at-high-of2 .result) (at-high-of2 .ensures)
+    (not-true _ (c .if4 .taken))
 
 returns-5 : tie.Need-returns-5
 returns-5 c =
     let s = c .before .before .before .before .before .before .before .before .before .before .before .before .before .before in
-    pick-low (s .args .p) (s .args .k) (s .args .split) (s .args .queue .now) (s .args .n) (s .args .i) (s .args .j) (s .pre) (c .before .before .before .before .before .before .before .before .before .before .before .before .if1 .left) (c .before .before .before .before .before .before .before .before .before .before .low-of .result) (c .before .before .before .before .before .before .before .before .before .before .low-of .ensures) (not-false _ (c .before .before .before .before .before .before .before .before .if2 .left)) (c .before .before .before .before .before .before .before .if3 .left) (c .before .before .before .before .before .high-of2 .result) (c .before .before .before .before .before .high-of2 .ensures) (not-false _ (c .before .before .before .if4 .left)) (c .if5 .taken)
+    let at-if1 = c .before .before .before .before .before .before .before .before .before .before .before .before .if1 in
+    let at-low-of = c .before .before .before .before .before .before .before .before .before .before .low-of in
+    let at-if2 = c .before .before .before .before .before .before .before .before .if2 in
+    let at-if3 = c .before .before .before .before .before .before .before .if3 in
+    let at-high-of2 = c .before .before .before .before .before .high-of2 in
+    let at-if4 = c .before .before .before .if4 in
+    pick-low (s .args .p) (s .args .k) (s .args .split) (s .args .queue .now) (s .args .n) (s .args .i) (s .args .j) (s .pre) (at-if1 .left)
+    (at-low-of .result) (at-low-of .ensures) (not-false _ (at-if2 .left)) (at-if3 .left) (at-high-of2 .result) (at-high-of2 .ensures)
+    (not-false _ (at-if4 .left)) (c .if5 .taken)
 
 returns-6 : tie.Need-returns-6
 returns-6 c =
     let s = c .before .before .before .before .before .before .before .before .before .before .before .before .before .before in
-    pick-high (s .args .p) (s .args .k) (s .args .split) (s .args .queue .now) (s .args .n) (s .args .i) (s .args .j) (s .pre) (c .before .before .before .before .before .before .before .before .before .before .before .before .if1 .left) (c .before .before .before .before .before .before .before .before .before .before .low-of .result) (c .before .before .before .before .before .before .before .before .before .before .low-of .ensures) (not-false _ (c .before .before .before .before .before .before .before .before .if2 .left)) (c .before .before .before .before .before .before .before .if3 .left) (c .before .before .before .before .before .high-of2 .result) (c .before .before .before .before .before .high-of2 .ensures) (not-false _ (c .before .before .before .if4 .left)) (c .if5 .left)
+    let at-if1 = c .before .before .before .before .before .before .before .before .before .before .before .before .if1 in
+    let at-low-of = c .before .before .before .before .before .before .before .before .before .before .low-of in
+    let at-if2 = c .before .before .before .before .before .before .before .before .if2 in
+    let at-if3 = c .before .before .before .before .before .before .before .if3 in
+    let at-high-of2 = c .before .before .before .before .before .high-of2 in
+    let at-if4 = c .before .before .before .if4 in
+    pick-high (s .args .p) (s .args .k) (s .args .split) (s .args .queue .now) (s .args .n) (s .args .i) (s .args .j) (s .pre) (at-if1 .left)
+    (at-low-of .result) (at-low-of .ensures) (not-false _ (at-if2 .left)) (at-if3 .left) (at-high-of2 .result) (at-high-of2 .ensures)
+    (not-false _ (at-if4 .left)) (c .if5 .left)
 
 pub next-half-spec : {M : Type 1} → statement M
 next-half-spec =

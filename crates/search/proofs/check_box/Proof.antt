@@ -21,12 +21,17 @@ survives-requires c κs =
 returns-2 : tie.Need-returns-2
 returns-2 c =
     let s = c .before .before .before .before in
-    box-lost (asked (s .args .p)) (s .args .k) (s .args .b) (s .args .seen) (s .args .c) (s .args .count) (s .pre .1) (c .before .before .if1 .left) (sym (c .before .survives .ensures) ∙ not-true _ (c .if2 .taken))
+    let at-if1 = c .before .before .if1 in
+    box-lost (asked (s .args .p)) (s .args .k) (s .args .b) (s .args .seen) (s .args .c) (s .args .count) (s .pre .1) (at-if1 .left)
+    (sym (c .before .survives .ensures) ∙ not-true _ (c .if2 .taken))
 
 returns-3 : tie.Need-returns-3
 returns-3 c =
     let s = c .before .before .before .before .before in
-    box-again (asked (s .args .p)) (s .args .k) (s .args .b) (s .args .seen) (s .args .c) (s .args .count) (s .pre .1) (c .before .before .before .if1 .left) (sym (c .before .before .survives .ensures) ∙ not-false _ (c .before .if2 .left)) (c .if3 .taken)
+    let at-if1 = c .before .before .before .if1 in
+    let at-survives = c .before .before .survives in
+    box-again (asked (s .args .p)) (s .args .k) (s .args .b) (s .args .seen) (s .args .c) (s .args .count) (s .pre .1) (at-if1 .left)
+    (sym (at-survives .ensures) ∙ not-false _ (c .before .if2 .left)) (c .if3 .taken)
 
 add-first-survivor : tie.Need-add-first-survivor
 add-first-survivor c =
@@ -39,7 +44,11 @@ first-survivor-requires c κs = search needs
 returns-4 : tie.Need-returns-4
 returns-4 c =
     let s = c .before .before .before .before .before .before in
-    box-first (asked (s .args .p)) (s .args .k) (s .args .b) (s .args .seen) (s .args .c) (s .args .count) (s .pre .1) (c .before .before .before .before .if1 .left) (sym (c .before .before .before .survives .ensures) ∙ not-false _ (c .before .before .if2 .left)) (c .before .if3 .left) (c .first-survivor .result) (c .first-survivor .ensures)
+    let at-if1 = c .before .before .before .before .if1 in
+    let at-survives = c .before .before .before .survives in
+    let at-if2 = c .before .before .if2 in
+    box-first (asked (s .args .p)) (s .args .k) (s .args .b) (s .args .seen) (s .args .c) (s .args .count) (s .pre .1) (at-if1 .left)
+    (sym (at-survives .ensures) ∙ not-false _ (at-if2 .left)) (c .before .if3 .left) (c .first-survivor .result) (c .first-survivor .ensures)
 
 pub check-box-spec : {M : Type 1} → statement M
 check-box-spec =

@@ -33,7 +33,8 @@ check-box-requires : tie.Need-check-box-requires Inv-loop μ-loop
 check-box-requires c κs =
     let s = c .before .before .before .before .before .before .before in
     let l = c .before .before .before .loop in
-    (rw (c .unpack .ensures) (one-box (s .args .p) (s .args .l) (s .args .queue .now) (s .pre) (l .queue) (l .corner) (l .count) (l .i) (l .m) (l .inv) (c .before .before .loop-test .taken)), l .inv .within)
+    let at-loop-test = c .before .before .loop-test in
+    (rw (c .unpack .ensures) (one-box (s .args .p) (s .args .l) (s .args .queue .now) (s .pre) (l .queue) (l .corner) (l .count) (l .i) (l .m) (l .inv) (at-loop-test .taken)), l .inv .within)
 
 enum-known-a : tie.Need-enum-known-a Inv-loop μ-loop
 enum-known-a c = search needs
@@ -47,8 +48,12 @@ returns : tie.Need-returns Inv-loop μ-loop
 returns c =
     let s = c .before .before .before .before .before .before .before .before .before .before .before in
     let l = c .before .before .before .before .before .before .before .loop in
+    let at-loop-test = c .before .before .before .before .before .before .loop-test in
+    let at-unpack = c .before .before .before .before .unpack in
+    let at-check-box = c .before .before .before .check-box in
     let g = c .before .a .given in
-    checks-ends (s .args .p) (s .args .l) (s .args .queue .now) (s .pre) (l .queue) (l .corner) (l .count) (l .i) (l .m) (l .inv) (c .before .before .before .before .before .before .loop-test .taken) (g .0 .0) (rw (g .1, c .before .before .before .before .unpack .ensures) at (c .before .before .before .check-box .ensures))
+    checks-ends (s .args .p) (s .args .l) (s .args .queue .now) (s .pre) (l .queue) (l .corner) (l .count) (l .i) (l .m) (l .inv)
+    (at-loop-test .taken) (g .0 .0) (rw (g .1, at-unpack .ensures) at (at-check-box .ensures))
 
 enum-told : tie.Need-enum-told Inv-loop μ-loop
 enum-told c = search needs
@@ -66,7 +71,11 @@ loop-again : tie.Need-loop-again Inv-loop μ-loop
 loop-again c =
     let s = c .before .before .before .before .before .before .before .before .before .before in
     let l = c .before .before .before .before .before .before .loop in
-    checking-lost (s .args .p) (s .args .l) (s .args .queue .now) (s .pre) (l .queue) (l .corner) (l .count) (l .i) (l .m) (l .inv) (c .before .before .before .before .before .loop-test .taken) (rw (c .enum-told .given .1, c .before .before .before .unpack .ensures) at (c .before .before .check-box .ensures))
+    let at-loop-test = c .before .before .before .before .before .loop-test in
+    let at-unpack = c .before .before .before .unpack in
+    let at-check-box = c .before .before .check-box in
+    checking-lost (s .args .p) (s .args .l) (s .args .queue .now) (s .pre) (l .queue) (l .corner) (l .count) (l .i) (l .m) (l .inv)
+    (at-loop-test .taken) (rw (c .enum-told .given .1, at-unpack .ensures) at (at-check-box .ensures))
 
 enum-known-c : tie.Need-enum-known-c Inv-loop μ-loop
 enum-known-c c = search needs
@@ -93,8 +102,12 @@ loop-again-2 : tie.Need-loop-again-2 Inv-loop μ-loop
 loop-again-2 c =
     let s = c .before .before .before .before .before .before .before .before .before .before .before in
     let l = c .before .before .before .before .before .before .before .loop in
+    let at-loop-test = c .before .before .before .before .before .before .loop-test in
+    let at-unpack = c .before .before .before .before .unpack in
+    let at-check-box = c .before .before .before .check-box in
     let g = c .before .c .given in
-    checking-survives (s .args .p) (s .args .l) (s .args .queue .now) (s .pre) (l .queue) (l .corner) (l .count) (l .i) (l .m) (l .inv) (c .before .before .before .before .before .before .loop-test .taken) (g .0 .0) (rw (g .1, c .before .before .before .before .unpack .ensures) at (c .before .before .before .check-box .ensures))
+    checking-survives (s .args .p) (s .args .l) (s .args .queue .now) (s .pre) (l .queue) (l .corner) (l .count) (l .i) (l .m) (l .inv)
+    (at-loop-test .taken) (g .0 .0) (rw (g .1, at-unpack .ensures) at (at-check-box .ensures))
 
 same-length-2 : tie.Need-same-length-2 Inv-loop μ-loop
 same-length-2 c =

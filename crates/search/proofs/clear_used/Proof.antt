@@ -20,7 +20,10 @@ same-length c = search needs
 returns : tie.Need-returns
 returns c =
     let s = c .before .before .before .before .before .before .before .before .before in
-    all-cleared (s .args .h) (s .args .used) (s .args .queue .now) (c .before .before .before .before .before .before .clear-part .last .0) (c .before .before .clear-part2 .last .0) (s .pre .0) (s .pre .1) (s .pre .2) (c .before .before .before .before .before .before .clear-part .kept .0) (c .before .before .clear-part2 .kept .0 ∙ c .before .before .before .before .before .before .clear-part .kept .0) (c .before .before .before .before .before .before .clear-part .ensures) (c .before .before .clear-part2 .ensures)
+    let at-clear-part = c .before .before .before .before .before .before .clear-part in
+    let at-clear-part2 = c .before .before .clear-part2 in
+    all-cleared (s .args .h) (s .args .used) (s .args .queue .now) (at-clear-part .last .0) (at-clear-part2 .last .0) (s .pre .0) (s .pre .1)
+    (s .pre .2) (at-clear-part .kept .0) (at-clear-part2 .kept .0 ∙ at-clear-part .kept .0) (at-clear-part .ensures) (at-clear-part2 .ensures)
 
 pub clear-used-spec : {M : Type 1} → statement M
 clear-used-spec =

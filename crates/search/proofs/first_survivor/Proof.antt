@@ -19,7 +19,9 @@ near-requires c κs =
 returns : tie.Need-returns
 returns c =
     let s = c .before .before .before in
-    first-met (asked (s .args .p)) (s .args .k) (s .args .b) (s .args .count) (c .before .before .corner .result) (c .before .before .corner .ensures) (sym (c .before .near .ensures) ∙ c .if1 .taken)
+    let at-corner = c .before .before .corner in
+    first-met (asked (s .args .p)) (s .args .k) (s .args .b) (s .args .count) (at-corner .result) (at-corner .ensures)
+    (sym (c .before .near .ensures) ∙ c .if1 .taken)
 
 is-full-requires : tie.Need-is-full-requires
 is-full-requires c κs = search needs
@@ -27,12 +29,20 @@ is-full-requires c κs = search needs
 returns-2 : tie.Need-returns-2
 returns-2 c =
     let s = c .before .before .before .before .before in
-    first-floor (asked (s .args .p)) (s .args .k) (s .args .b) (s .args .count) (c .before .before .before .before .corner .result) (c .before .before .before .before .corner .ensures) (sym (c .before .before .before .near .ensures) ∙ c .before .before .if1 .left) (sym (c .before .is-full .ensures) ∙ c .if2 .taken)
+    let at-corner = c .before .before .before .before .corner in
+    let at-near = c .before .before .before .near in
+    let at-if1 = c .before .before .if1 in
+    first-floor (asked (s .args .p)) (s .args .k) (s .args .b) (s .args .count) (at-corner .result) (at-corner .ensures)
+    (sym (at-near .ensures) ∙ at-if1 .left) (sym (c .before .is-full .ensures) ∙ c .if2 .taken)
 
 returns-3 : tie.Need-returns-3
 returns-3 c =
     let s = c .before .before .before .before .before in
-    first-goes (asked (s .args .p)) (s .args .k) (s .args .b) (s .args .count) (c .before .before .before .before .corner .result) (c .before .before .before .before .corner .ensures) (sym (c .before .before .before .near .ensures) ∙ c .before .before .if1 .left) (sym (c .before .is-full .ensures) ∙ c .if2 .left)
+    let at-corner = c .before .before .before .before .corner in
+    let at-near = c .before .before .before .near in
+    let at-if1 = c .before .before .if1 in
+    first-goes (asked (s .args .p)) (s .args .k) (s .args .b) (s .args .count) (at-corner .result) (at-corner .ensures)
+    (sym (at-near .ensures) ∙ at-if1 .left) (sym (c .before .is-full .ensures) ∙ c .if2 .left)
 
 pub first-survivor-spec : {M : Type 1} → statement M
 first-survivor-spec =

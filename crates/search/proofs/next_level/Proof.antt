@@ -51,7 +51,13 @@ same-length c = search needs
 returns : tie.Need-returns
 returns c =
     let s = c .before .before .before .before .before .before .before .before .before .before .before .before .before .before .before in
-    splits-room (s .args .p) (s .args .l) (s .args .queue .now) (s .pre) (c .before .before .before .before .before .before .before .before .grow .last .1 .1 .1 .0) (c .before .before .clear-part .last .0) (c .before .before .before .before .before .before .before .before .grow .kept .1 .1 .1 .0) (rw (c .before .before .before .before .enum-told .given .1, c .before .before .before .before .before .before .before .before .before .before .deepen .ensures, c .before .before .before .before .before .before .before .before .before .before .before .split .ensures) at (c .before .before .before .before .before .before .before .before .grow .ensures)) (c .before .before .clear-part .ensures)
+    let at-grow = c .before .before .before .before .before .before .before .before .grow in
+    let at-clear-part = c .before .before .clear-part in
+    let at-enum-told = c .before .before .before .before .enum-told in
+    let at-deepen = c .before .before .before .before .before .before .before .before .before .before .deepen in
+    let at-split = c .before .before .before .before .before .before .before .before .before .before .before .split in
+    splits-room (s .args .p) (s .args .l) (s .args .queue .now) (s .pre) (at-grow .last .1 .1 .1 .0) (at-clear-part .last .0)
+    (at-grow .kept .1 .1 .1 .0) (rw (at-enum-told .given .1, at-deepen .ensures, at-split .ensures) at (at-grow .ensures)) (at-clear-part .ensures)
 
 same-length-2 : tie.Need-same-length-2
 same-length-2 c = search needs
@@ -59,9 +65,14 @@ same-length-2 c = search needs
 returns-2 : tie.Need-returns-2
 returns-2 c =
     let s = c .before .before .before .before .before .before .before .before .before .before .before .before .before .before .before .before .before in
-    let g = c .before .before .before .before .before .before .size .given in
-    rw (c .before .before .before .before .before .before .before .before .before .before .before .before .deepen .ensures, c .before .before .before .before .before .before .before .before .before .before .before .before .before .split .ensures)
-    (splits-level (s .args .p) (s .args .l) (s .args .queue .now) (s .pre) (c .before .before .before .before .before .before .before .before .before .before .grow .last .1 .1 .1 .0) (c .before .before .before .copy-down .last .0) (c .before .before .before .before .before .before .before .before .before .before .grow .kept .1 .1 .1 .0) (g .0 .0) (c .larger .result) (rw (g .1, c .before .before .before .before .before .before .before .before .before .before .before .before .deepen .ensures, c .before .before .before .before .before .before .before .before .before .before .before .before .before .split .ensures) at (c .before .before .before .before .before .before .before .before .before .before .grow .ensures)) (c .before .before .before .copy-down .ensures) (c .before .before .before .copy-down .kept .0 ∙ c .before .before .before .before .before .before .before .before .before .before .grow .kept .1 .1 .1 .0) (c .larger .ensures))
+    let at-size = c .before .before .before .before .before .before .size in
+    let at-deepen = c .before .before .before .before .before .before .before .before .before .before .before .before .deepen in
+    let at-split = c .before .before .before .before .before .before .before .before .before .before .before .before .before .split in
+    let at-grow = c .before .before .before .before .before .before .before .before .before .before .grow in
+    let at-copy-down = c .before .before .before .copy-down in
+    let g = at-size .given in
+    rw (at-deepen .ensures, at-split .ensures)
+    (splits-level (s .args .p) (s .args .l) (s .args .queue .now) (s .pre) (at-grow .last .1 .1 .1 .0) (at-copy-down .last .0) (at-grow .kept .1 .1 .1 .0) (g .0 .0) (c .larger .result) (rw (g .1, at-deepen .ensures, at-split .ensures) at (at-grow .ensures)) (at-copy-down .ensures) (at-copy-down .kept .0 ∙ at-grow .kept .1 .1 .1 .0) (c .larger .ensures))
 
 pub next-level-spec : {M : Type 1} → statement M
 next-level-spec =

@@ -21,14 +21,20 @@ same-length c = search needs
 returns : tie.Need-returns
 returns c =
     let s = c .before .before .before .before .before .before .before .before .before .before in
-    let g = c .before .before .before .survivors .given in
-    steps-clear (s .args .p) (s .args .l) (s .args .queue .now) (c .before .before .before .before .before .before .before .check-level .last .1 .0) (g .0 .0) (rw (g .1) at (c .before .before .before .before .before .before .before .check-level .ensures)) (c .if1 .taken)
+    let at-survivors = c .before .before .before .survivors in
+    let at-check-level = c .before .before .before .before .before .before .before .check-level in
+    let g = at-survivors .given in
+    steps-clear (s .args .p) (s .args .l) (s .args .queue .now) (at-check-level .last .1 .0) (g .0 .0) (rw (g .1) at (at-check-level .ensures))
+    (c .if1 .taken)
 
 next-level-requires : tie.Need-next-level-requires
 next-level-requires c κs =
     let s = c .before .before .before .before .before .before .before .before .before .before .before in
-    let g = c .before .before .before .before .survivors .given in
-    splitting (s .args .p) (s .args .l) (s .args .queue .now) (c .before .before .before .before .before .before .before .before .check-level .last .1 .0) (g .0 .0) (rw (g .1) at (c .before .before .before .before .before .before .before .before .check-level .ensures)) (c .before .if1 .left)
+    let at-survivors = c .before .before .before .before .survivors in
+    let at-check-level = c .before .before .before .before .before .before .before .before .check-level in
+    let g = at-survivors .given in
+    splitting (s .args .p) (s .args .l) (s .args .queue .now) (at-check-level .last .1 .0) (g .0 .0) (rw (g .1) at (at-check-level .ensures))
+    (c .before .if1 .left)
 
 same-length-2 : tie.Need-same-length-2
 same-length-2 c = search needs
@@ -36,8 +42,9 @@ same-length-2 c = search needs
 returns-2 : tie.Need-returns-2
 returns-2 c =
     let s = c .before .before .before .before .before .before .before .before in
+    let at-check-level = c .before .before .before .before .before .check-level in
     let g = c .before .a .given in
-    steps-ends (s .args .p) (s .args .l) (s .args .queue .now) (c .before .before .before .before .before .check-level .last .1 .0) (g .0 .0) (rw (g .1) at (c .before .before .before .before .before .check-level .ensures))
+    steps-ends (s .args .p) (s .args .l) (s .args .queue .now) (at-check-level .last .1 .0) (g .0 .0) (rw (g .1) at (at-check-level .ensures))
 
 same-length-3 : tie.Need-same-length-3
 same-length-3 c = search needs
@@ -45,8 +52,12 @@ same-length-3 c = search needs
 returns-3 : tie.Need-returns-3
 returns-3 c =
     let s = c .before .before .before .before .before .before .before .before .before .before .before .before .before .before in
-    let g = c .before .before .before .before .before .before .before .survivors .given in
-    steps-splits (s .args .p) (s .args .l) (s .args .queue .now) (c .before .before .before .before .before .before .before .before .before .before .before .check-level .last .1 .0) (g .0 .0) (rw (g .1) at (c .before .before .before .before .before .before .before .before .before .before .before .check-level .ensures)) (c .before .before .next-level .last .1 .0) (c .before .before .next-level .result) (c .before .before .next-level .ensures)
+    let at-survivors = c .before .before .before .before .before .before .before .survivors in
+    let at-check-level = c .before .before .before .before .before .before .before .before .before .before .before .check-level in
+    let at-next-level = c .before .before .next-level in
+    let g = at-survivors .given in
+    steps-splits (s .args .p) (s .args .l) (s .args .queue .now) (at-check-level .last .1 .0) (g .0 .0) (rw (g .1) at (at-check-level .ensures))
+    (at-next-level .last .1 .0) (at-next-level .result) (at-next-level .ensures)
 
 pub one-level-spec : {M : Type 1} → statement M
 one-level-spec =

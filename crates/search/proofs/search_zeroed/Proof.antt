@@ -38,15 +38,20 @@ clear-used-requires c κs =
 same-length : tie.Need-same-length Inv-loop μ-loop
 same-length c =
     let l = c .before .before .before .before .before .before .before .before .before .before .before .loop in
-    c .before .before .clear-used .kept .0 ∙ c .before .before .before .before .before .before .before .before .before .one-level .kept .1 .0 ∙ l .inv .len
+    let at-clear-used = c .before .before .clear-used in
+    let at-one-level = c .before .before .before .before .before .before .before .before .before .one-level in
+    at-clear-used .kept .0 ∙ at-one-level .kept .1 .0 ∙ l .inv .len
 
 returns : tie.Need-returns Inv-loop μ-loop
 returns c =
     let s = c .before .before .before .before .before .before .before .before .before .before .before .before .before in
     let l = c .before .before .before .before .before .before .before .before .before .before .before .loop in
-    let g = c .before .before .before .before .before .a .given in
-    let x = rw (g .1) at (c .before .before .before .before .before .before .before .before .before .one-level .ensures) in
-    (running-ends (s .args .p) (length (s .args .queue .now)) (l .queue) (l .l) (l .inv) (c .before .before .before .before .before .before .before .before .before .one-level .last .1 .0) (g .0 .0) x, (c .before .before .clear-used .ensures ∙ ap (λ (n : ℕ). replicate n 0) (c .before .before .before .before .before .before .before .before .before .one-level .kept .1 .0 ∙ l .inv .len) ∙ sym (s .pre .zero), x .after .0))
+    let at-a = c .before .before .before .before .before .a in
+    let at-one-level = c .before .before .before .before .before .before .before .before .before .one-level in
+    let at-clear-used = c .before .before .clear-used in
+    let g = at-a .given in
+    let x = rw (g .1) at (at-one-level .ensures) in
+    (running-ends (s .args .p) (length (s .args .queue .now)) (l .queue) (l .l) (l .inv) (at-one-level .last .1 .0) (g .0 .0) x, (at-clear-used .ensures ∙ ap (λ (n : ℕ). replicate n 0) (at-one-level .kept .1 .0 ∙ l .inv .len) ∙ sym (s .pre .zero), x .after .0))
 
 enum-known-next : tie.Need-enum-known-next Inv-loop μ-loop
 enum-known-next c = search needs
@@ -55,15 +60,19 @@ loop-less : tie.Need-loop-less Inv-loop μ-loop
 loop-less c =
     let s = c .before .before .before .before .before .before .before .before .before in
     let l = c .before .before .before .before .before .before .before .loop in
+    let at-one-level = c .before .before .before .before .before .one-level in
     let g = c .before .next .given in
-    running-less (s .args .p) (length (s .args .queue .now)) (l .queue) (l .l) (l .inv) (c .before .before .before .before .before .one-level .last .1 .0) (g .0 .0) (rw (g .1) at (c .before .before .before .before .before .one-level .ensures))
+    running-less (s .args .p) (length (s .args .queue .now)) (l .queue) (l .l) (l .inv) (at-one-level .last .1 .0) (g .0 .0)
+    (rw (g .1) at (at-one-level .ensures))
 
 loop-again : tie.Need-loop-again Inv-loop μ-loop
 loop-again c =
     let s = c .before .before .before .before .before .before .before .before .before in
     let l = c .before .before .before .before .before .before .before .loop in
+    let at-one-level = c .before .before .before .before .before .one-level in
     let g = c .before .next .given in
-    running-goes (s .args .p) (length (s .args .queue .now)) (l .queue) (l .l) (l .inv) (c .before .before .before .before .before .one-level .last .1 .0) (g .0 .0) (rw (g .1) at (c .before .before .before .before .before .one-level .ensures)) (c .before .before .before .before .before .one-level .kept .1 .0 ∙ l .inv .len)
+    running-goes (s .args .p) (length (s .args .queue .now)) (l .queue) (l .l) (l .inv) (at-one-level .last .1 .0) (g .0 .0)
+    (rw (g .1) at (at-one-level .ensures)) (at-one-level .kept .1 .0 ∙ l .inv .len)
 
 pub search-zeroed-spec : {M : Type 1} → statement M
 search-zeroed-spec =
