@@ -43,9 +43,12 @@ fn query(kind: u8, flags: u8, separation: u32, tolerance: u32, points: [i32; 24]
         byte2: 0,
         byte3: 0,
         id: 0,
-        separation: separation,
+        dx: separation,
+        dy: separation,
+        dz: separation,
         tolerance: tolerance,
         budget: 1,
+        spare: 0,
         points: points,
     }
 }

@@ -107,15 +107,17 @@ pub fn prepare(r: Record, words: usize) -> Pair
     let x = kernel_at(points, 0, false, face);
     let y = kernel_at(points, 1, flagged, face);
     let z = kernel_at(points, 2, false, face);
-    let d = r.separation as u64;
+    let dx = r.dx as u64;
+    let dy = r.dy as u64;
+    let dz = r.dz as u64;
     let tolerance = r.tolerance as u64;
     Pair {
         x: x,
         y: y,
         z: z,
-        dx: d,
-        dy: d,
-        dz: d,
+        dx: dx,
+        dy: dy,
+        dz: dz,
         face: face,
         tolerance: tolerance,
         budget: r.budget,

@@ -21,7 +21,7 @@ use Rattle.rules.specs.QueryFile.{word, wordBytes, stands, recordAt, recordByte
 use Rattle.little.specs.Word.{length-word, word-at}
 use Rattle.little.specs.Stands.{stands-there}
 use Rattle.queries.specs.Opening.{opened-records, reach-index, reach-good}
-use Rattle.queries.specs.RoundTrip.{Held, length-record, record-drop, front}
+use Rattle.queries.specs.RoundTrip.{Held, Narrow, length-record, record-drop, front}
 
 -- ---- a trailer
 open-good : (form : Form) (s : List ℕ) (t n : ℕ) → t + 16 ≡ length s → stands s t (form .mark) ≡ true → stands s (t + 4) (editionBytes form) ≡ true
@@ -83,12 +83,12 @@ module _ (form : Form) (n : ℕ) (four-long : length (form .mark) ≡ 4) where
 -- ---- a list of records
 abbrev pub AllHeld : List Record → Type 0
 AllHeld [] = Unit {0}
-AllHeld (r ∷ rs) = Held r × AllHeld rs
+AllHeld (r ∷ rs) = (Held r × Narrow r) × AllHeld rs
 
 pub length-records : (rs : List Record) → AllHeld rs → length (recordsBytes rs) ≡ 116 * length rs
 unfolding recordsBytes
 length-records [] h = refl
-length-records (r ∷ rs) h = simp length-append (omega (arith, length-record r (h .0), length-records rs (h .1)))
+length-records (r ∷ rs) h = simp length-append (omega (arith, length-record r (h .0 .0), length-records rs (h .1)))
 
 -- record k stands behind k records
 pub record-in : (rs : List Record) (k : ℕ) (before rest : List ℕ) → AllHeld rs → k < length rs
@@ -102,10 +102,10 @@ record-in (r ∷ rs) zero before rest h l =
     ∙ sym (record-drop s (length before))
     ∙ ap (λ (x : List ℕ). recordAt (drop (length before) x) 0) e
     ∙ ap (λ (x : List ℕ). recordAt x 0) (drop-append-seam before (recordBytes r ++ (recordsBytes rs ++ rest)))
-    ∙ front r (recordsBytes rs ++ rest) (h .0)
+    ∙ front r (recordsBytes rs ++ rest) (h .0 .0) (h .0 .1)
 record-in (r ∷ rs) (suc k) before rest h l =
     let e : before ++ (recordBytes r ++ recordsBytes rs) ++ rest ≡ before ++ recordBytes r ++ recordsBytes rs ++ rest = simp append-assoc in
-    let p : length before + 116 * suc k ≡ length (before ++ recordBytes r) + 116 * k = omega (arith, length-append before (recordBytes r), length-record r (h .0)) in
+    let p : length before + 116 * suc k ≡ length (before ++ recordBytes r) + 116 * k = omega (arith, length-append before (recordBytes r), length-record r (h .0 .0)) in
     ap (λ (x : List ℕ). recordAt x (length before + 116 * suc k)) e
     ∙ ap (recordAt (before ++ recordBytes r ++ recordsBytes rs ++ rest)) p
     ∙ record-in rs k (before ++ recordBytes r) rest (h .1) (omega arith)

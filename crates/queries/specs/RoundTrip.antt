@@ -7,17 +7,20 @@
 -- Assumes nothing.
 use Prim.Native.Nat.{ℕ, zero, suc, _+_, _*_, _≤_, _<_}
 use mathlib.Core.Path.{_≡_, refl, sym, ap, _∙_}
+use mathlib.Core.Bool.{true, and-eq-true-iff}
 use mathlib.Core.List.{List, [], _∷_, _++_, append-assoc}
 use mathlib.Core.Logic.{⊎-elim}
 use native.Mathlib.Nat.{add-assoc, add-zero}
 use native.Mathlib.Omega.{arith}
+use borrow.Author.Tests.{eqb-true}
+use lib.Dec.{eqb}
 use lib.IntN.{ℤ, pos, negsuc, natAbs}
 use lib.ListN.{length, getD, take, drop, length-drop}
 use lib.Seq.{getD-drop, drop-drop, take-add}
 use mir.Syntax.{w32}
 use mir.Val.{SFits}
 use Rattle.rules.specs.declared.Record.{Record}
-use Rattle.rules.specs.QueryFile.{word, wordBytes, bits, coordinatesAt, coordinateBytes, recordAt, recordBytes, put, putUnless, writeRefusal}
+use Rattle.rules.specs.QueryFile.{word, wordBytes, bits, coordinatesAt, coordinateBytes, recordAt, recordBytes, put, putUnless, hasRoom, writeRefusal}
 use Rattle.refusals.specs.Accepted.{Accepted}
 use Rattle.little.specs.Put.{drop-put, put-same}
 use Rattle.little.specs.Word.{Bytes, word-drop, word-back, word-at, word-lt, word-same, digits}
@@ -68,11 +71,20 @@ pub record Held (r : Record) : Type 0 where
   pub byte2 : r .byte2 < 256
   pub byte3 : r .byte3 < 256
   pub id : r .id < 4294967296
-  pub separation : r .separation < 4294967296
+  pub dx : r .dx < 4294967296
+  pub dy : r .dy < 4294967296
+  pub dz : r .dz < 4294967296
   pub tolerance : r .tolerance < 4294967296
   pub budget : r .budget < 4294967296
+  pub spare : r .spare < 4294967296
   pub count : length (r .points) ≡ 24
   pub points : Each (r .points)
+
+-- and what an edition 1 record can say of it
+pub record Narrow (r : Record) : Type 0 where
+  pub dy : r .dx ≡ r .dy
+  pub dz : r .dx ≡ r .dz
+  pub spare : 0 ≡ r .spare
 
 small-fits : (z : ℤ) → natAbs z ≤ 1048576 → SFits w32 z
 small-fits (pos n) h = record { sfits = omega arith }
@@ -90,12 +102,21 @@ held r a i n =
       byte2 = omega (arith, a .byte2);
       byte3 = omega (arith, a .byte3);
       id = i;
-      separation = omega (arith, a .separation);
+      dx = omega (arith, a .dx);
+      dy = omega (arith, a .dy);
+      dz = omega (arith, a .dz);
       tolerance = omega (arith, a .tolerance-most);
       budget = omega (arith, a .budget-most);
+      spare = omega (arith, a .spare);
       count = n;
       points = each (r .points) (a .coordinate);
     }
+
+-- what a writer does not refuse is such
+pub narrow : (r : Record) → Accepted r → hasRoom r ≡ true → Narrow r
+narrow r a e =
+    let h = and-eq-true-iff (eqb (r .dx) (r .dy)) (eqb (r .dx) (r .dz)) .0 e in
+    record { dy = eqb-true (r .dx) (r .dy) (h .0); dz = eqb-true (r .dx) (r .dz) (h .1); spare = sym (a .spare) }
 
 -- ---- a record
 pub record-drop : (s : List ℕ) (at : ℕ) → recordAt (drop at s) 0 ≡ recordAt s at
@@ -106,12 +127,15 @@ pub length-record : (r : Record) → Held r → length (recordBytes r) ≡ 116
 unfolding recordBytes wordBytes
 length-record r h = omega (arith, length-bytes (r .points), h .count)
 
-pub front : (r : Record) (t : List ℕ) → Held r → recordAt (recordBytes r ++ t) 0 ≡ r
+pub front : (r : Record) (t : List ℕ) → Held r → Narrow r → recordAt (recordBytes r ++ t) 0 ≡ r
 unfolding recordAt recordBytes wordBytes
-front r t h =
+front r t h w =
     let l = recordBytes r ++ t in
     let e1 : word l 4 ≡ r .id = word-at l _ 4 (r .id) refl (h .id) in
-    let e2 : word l 8 ≡ r .separation = word-at l _ 8 (r .separation) refl (h .separation) in
+    let e2 : word l 8 ≡ r .dx = word-at l _ 8 (r .dx) refl (h .dx) in
+    let e2y : word l 8 ≡ r .dy = e2 ∙ w .dy in
+    let e2z : word l 8 ≡ r .dz = e2 ∙ w .dz in
+    let e6 : 0 ≡ r .spare = w .spare in
     let e3 : word l 12 ≡ r .tolerance = word-at l _ 12 (r .tolerance) refl (h .tolerance) in
     let e4 : word l 16 ≡ r .budget = word-at l _ 16 (r .budget) refl (h .budget) in
     let e5 : coordinatesAt l 20 24 ≡ r .points =
@@ -122,25 +146,30 @@ front r t h =
       byte2 = r .byte2;
       byte3 = r .byte3;
       id = e1 i;
-      separation = e2 i;
+      dx = e2 i;
+      dy = e2y i;
+      dz = e2z i;
       tolerance = e3 i;
       budget = e4 i;
+      spare = e6 i;
       points = e5 i;
     }
 
-pub read-back : (s : List ℕ) (at : ℕ) (r : Record) → Held r → at + 116 ≤ length s → recordAt (put s at (recordBytes r)) at ≡ r
-read-back s at r h room =
+pub read-back : (s : List ℕ) (at : ℕ) (r : Record) → Held r → Narrow r → at + 116 ≤ length s → recordAt (put s at (recordBytes r)) at ≡ r
+read-back s at r h w room =
     sym (record-drop (put s at (recordBytes r)) at)
     ∙ ap (λ (l : List ℕ). recordAt l 0) (drop-put s at (recordBytes r) (omega (arith, length-record r h)))
-    ∙ front r (drop (at + length (recordBytes r)) s) h
+    ∙ front r (drop (at + length (recordBytes r)) s) h w
 
 -- the buffer that a writer leaves when it is done
 pub written-back : (s : List ℕ) (at : ℕ) (r : Record) → Held r → writeRefusal s at r ≡ 0 → recordAt (putUnless (writeRefusal s at r) s at (recordBytes r)) at ≡ r
 unfolding putUnless
-written-back s at r h e = rw e (read-back s at r h (write-room s at r e .1))
+written-back s at r h e =
+    let w = write-room s at r e in
+    rw e (read-back s at r h (narrow r (w .0) (w .1)) (w .2))
 
-pub same-record : (r r′ : Record) → Held r → Held r′ → recordBytes r ≡ recordBytes r′ → r ≡ r′
-same-record r r′ h h′ e = sym (front r [] h) ∙ ap (λ (l : List ℕ). recordAt (l ++ []) 0) e ∙ front r′ [] h′
+pub same-record : (r r′ : Record) → Held r → Held r′ → Narrow r → Narrow r′ → recordBytes r ≡ recordBytes r′ → r ≡ r′
+same-record r r′ h h′ w w′ e = sym (front r [] h w) ∙ ap (λ (l : List ℕ). recordAt (l ++ []) 0) e ∙ front r′ [] h′ w′
 
 -- ---- a record that stands in bytes
 each-read : (n : ℕ) (s : List ℕ) (at : ℕ) → Bytes s → (length (coordinatesAt s at n) ≡ n) × Each (coordinatesAt s at n)
@@ -158,9 +187,12 @@ read-held s at b =
       byte2 = b (at + 2);
       byte3 = b (at + 3);
       id = word-lt s b (at + 4);
-      separation = word-lt s b (at + 8);
+      dx = word-lt s b (at + 8);
+      dy = word-lt s b (at + 8);
+      dz = word-lt s b (at + 8);
       tolerance = word-lt s b (at + 12);
       budget = word-lt s b (at + 16);
+      spare = omega arith;
       count = h .0;
       points = h .1;
     }

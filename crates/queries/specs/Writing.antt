@@ -6,20 +6,21 @@
 -- Assumes nothing.
 use Prim.Native.Nat.{ℕ, zero, suc, _+_, _-_, _*_, _<_, _≤_}
 use mathlib.Core.Path.{_≡_, refl, sym, _∙_}
-use mathlib.Core.Bool.{not, cond}
+use mathlib.Core.Bool.{true, cond}
 use mathlib.Core.List.{List, [], _∷_}
 use native.Mathlib.Omega.{arith}
 use native.Mathlib.Nat.{mul-le-mul}
 use borrow.Author.Tests.{ltb-false}
-use lib.Dec.{ltb, eqb, eqb·suc-zero}
+use lib.Dec.{ltb}
 use lib.ListN.{length}
 use Rattle.rules.specs.declared.Record.{Record}
 use Rattle.rules.specs.declared.Form.{Form}
 use Rattle.rules.specs.declared.Wrote.{Wrote}
 use Rattle.rules.specs.declared.Wrote.the-variants.{Done, Refused}
-use Rattle.rules.specs.Refusals.{first, recordCases, recordRefusal}
-use Rattle.rules.specs.QueryFile.{put, space, writeRefusal, trailerRefusal, wroteUnless, putUnless, Written}
-use Rattle.refusals.specs.Cases.{orElse, first-then, not-due}
+use Rattle.rules.specs.Refusals.{first, casesWith}
+use Rattle.rules.specs.QueryFile.{put, space, hasRoom, writeRefusal, trailerRefusal, wroteUnless, putUnless, Written}
+use Rattle.refusals.specs.Cases.{firstOr, first-append, not-due}
+use Rattle.refusals.specs.Accepted.{Accepted, accepted-with}
 
 -- ---- by the refusal's number
 module _ (n : ℕ) (s : List ℕ) (at : ℕ) (bytes : List ℕ) where
@@ -37,25 +38,17 @@ module _ (n : ℕ) (s : List ℕ) (at : ℕ) (bytes : List ℕ) where
   written-once x y v w p q = (p .leaves ∙ sym (q .leaves), p .says ∙ sym (q .says))
 
 -- ---- a record
-else-is : (k m : ℕ) → cond (not (eqb k 0)) k m ≡ orElse k m
-else-is zero m = refl
-else-is (suc k) m = rw (eqb·suc-zero k)
-
 module _ (s : List ℕ) (at : ℕ) (r : Record) where
-  pub write-is : writeRefusal s at r ≡ cond (not (eqb (recordRefusal r) 0)) (recordRefusal r) (cond (ltb (length s - at) 116) 14 0)
-  unfolding writeRefusal recordRefusal first
-  write-is = first-then (recordCases r) (space s at 116 ∷ []) tt ∙ sym (else-is (recordRefusal r) (cond (ltb (length s - at) 116) 14 0))
+  pub write-is : writeRefusal s at r ≡ firstOr (casesWith (hasRoom r) r) (cond (ltb (length s - at) 116) 14 0)
+  unfolding writeRefusal first
+  write-is = first-append (casesWith (hasRoom r) r) (space s at 116 ∷ [])
 
-  none : (k m : ℕ) → orElse k m ≡ 0 → (k ≡ 0) × (m ≡ 0)
-  none zero m e = (refl, e)
-  none (suc k) m e = let z : suc k ≡ 0 = e in absurd (omega arith)
-
-  pub write-room : writeRefusal s at r ≡ 0 → (recordRefusal r ≡ 0) × (at + 116 ≤ length s)
-  unfolding first
+  pub write-room : writeRefusal s at r ≡ 0 → Accepted r × (hasRoom r ≡ true) × (at + 116 ≤ length s)
+  unfolding writeRefusal
   write-room e =
-      let h = none (recordRefusal r) (cond (ltb (length s - at) 116) 14 0) (sym (write-is ∙ else-is (recordRefusal r) (cond (ltb (length s - at) 116) 14 0)) ∙ e) in
-      let l = ltb-false (length s - at) 116 (not-due 13 (ltb (length s - at) 116) [] (h .1) .0) in
-      (h .0, omega arith)
+      let h = accepted-with (hasRoom r) r (space s at 116 ∷ []) e in
+      let l = ltb-false (length s - at) 116 (not-due 13 (ltb (length s - at) 116) [] (h .2) .0) in
+      (h .0, h .1, omega arith)
 
 -- ---- a trailer
 pub few-bytes : (size n : ℕ) → size < 256 → n ≤ 4096 → size * n ≤ 1044480

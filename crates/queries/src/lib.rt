@@ -2,7 +2,7 @@
 ghost use mathlib.Core.Path.{_≡_};
 ghost use Prim.Native.Nat.{_+_, _-_, _*_, _≤_};
 ghost use lib.ListN.{length};
-ghost use Rattle.rules.specs.QueryFile.{coordinatesAt, coordinateBytes, recordAt, recordBytes, trailerBytes, queryForm, put, opened, fetched, noRecord, writeRefusal, trailerRefusal, Written};
+ghost use Rattle.rules.specs.QueryFile.{coordinatesAt, coordinateBytes, recordAt, recordBytes, trailerBytes, queryForm, put, opened, fetched, noRecord, hasRoom, writeRefusal, trailerRefusal, Written};
 use little::read_i32;
 use little::read_u32;
 use little::stands4;
@@ -11,6 +11,7 @@ use little::write_u32;
 use little::write4;
 use refusals::first;
 use refusals::record_refusal;
+use refusals::refusal_with;
 use rules::Fetched;
 use rules::Form;
 use rules::Opened;
@@ -54,9 +55,12 @@ pub fn decode(s: &[u8], at: usize) -> Record
         byte2: s[at + 2],
         byte3: s[at + 3],
         id: read_u32(s, at + 4),
-        separation: read_u32(s, at + 8),
+        dx: read_u32(s, at + 8),
+        dy: read_u32(s, at + 8),
+        dz: read_u32(s, at + 8),
         tolerance: read_u32(s, at + 12),
         budget: read_u32(s, at + 16),
+        spare: 0,
         points,
     }
 }
@@ -67,7 +71,7 @@ fn encode(s: &mut [u8], at: usize, r: Record)
 {
     write4(s, at, r.kind, r.flags, r.byte2, r.byte3);
     write_u32(s, at + 4, r.id);
-    write_u32(s, at + 8, r.separation);
+    write_u32(s, at + 8, r.dx);
     write_u32(s, at + 12, r.tolerance);
     write_u32(s, at + 16, r.budget);
     let points = r.points;
@@ -146,9 +150,12 @@ fn no_record() -> Record
         byte2: 0,
         byte3: 0,
         id: 0,
-        separation: 0,
+        dx: 0,
+        dy: 0,
+        dz: 0,
         tolerance: 0,
         budget: 0,
+        spare: 0,
         points,
     }
 }
@@ -187,13 +194,19 @@ fn left_from(n: usize, at: usize) -> usize
     if at <= n { n - at } else { 0 }
 }
 
+// Whether an edition 1 record has room for the separations: it holds one.
+fn has_room(r: Record) -> bool
+    ensures { λ b. ⌜ b ≡ hasRoom r ⌝ }
+{
+    (r.dx == r.dy) & (r.dx == r.dz)
+}
+
 // The 116 bytes of a record, from `at` on.
 pub fn write_record(s: &mut [u8], at: usize, r: Record) -> Wrote
     ensures { λ w. ⌜ Written (writeRefusal (now (s .entry)) at r) (now (s .entry)) at (recordBytes r) (now (s .exit)) w ⌝ }
 {
     let fourteen = first(left_from(s.len(), at) < 116, 14, 0);
-    let own = record_refusal(r);
-    let number = first(own != 0, own, fourteen);
+    let number = refusal_with(has_room(r), r, fourteen);
     if number != 0 {
         return Wrote::Refused(number);
     }

@@ -1,5 +1,6 @@
 -- What a record that is not refused is known to be.
 --     accepted          of `recordRefusal r ≡ 0`, as a writer and `fetch` give it
+--     accepted-with     of the rows alone, with others behind them: also that there is room for the separations
 --     accepted-search   of `searchRefusal r words ≡ 0`, as the search gives it
 -- Assumes nothing.
 use Prim.Native.Nat.{ℕ, suc, _≤_}
@@ -13,7 +14,7 @@ use lib.ListN.{getD, drop}
 use lib.Dec.{leb, eqb}
 use Rattle.rules.specs.declared.Record.{Record}
 use Rattle.rules.specs.Numbers.{between, isCoordinate, isSeparation, isTolerance, isBudget, isQueue}
-use Rattle.rules.specs.Refusals.{Case, first, every, recordCases, recordRefusal, searchRefusal}
+use Rattle.rules.specs.Refusals.{Case, first, every, areFlags, areSeparations, casesWith, recordRefusal, searchRefusal}
 use Rattle.refusals.specs.Cases.{not-due}
 use Rattle.refusals.specs.Every.{every-at}
 
@@ -23,7 +24,10 @@ pub record Accepted (r : Record) : Type 0 where
   pub byte2 : r .byte2 ≡ 0
   pub byte3 : r .byte3 ≡ 0
   pub coordinate : (i : ℕ) → natAbs (getD (r .points) i (pos 0)) ≤ 1048576
-  pub separation : r .separation ≤ 65536
+  pub spare : r .spare ≡ 0
+  pub dx : r .dx ≤ 65536
+  pub dy : r .dy ≤ 65536
+  pub dz : r .dz ≤ 65536
   pub tolerance-least : 16 ≤ r .tolerance
   pub tolerance-most : r .tolerance ≤ 1048576
   pub budget-least : 1 ≤ r .budget
@@ -47,39 +51,47 @@ in-range low high n e =
 peel : (n : ℕ) (ok : Bool) (cs : List Case) → first (record { number = suc n; due = not ok } ∷ cs) ≡ 0 → (ok ≡ true) × (first cs ≡ 0)
 peel n ok cs e = let h = not-due n (not ok) cs e in (not-false ok (h .0), h .1)
 
-accepted-before : (r : Record) (more : List Case) → first (recordCases r ++ more) ≡ 0 → Accepted r × (first more ≡ 0)
-accepted-before r more e =
-    let cs = recordCases r ++ more in
+pub accepted-with : (room : Bool) (r : Record) (more : List Case) → first (casesWith room r ++ more) ≡ 0 → Accepted r × (room ≡ true) × (first more ≡ 0)
+accepted-with room r more e =
+    let cs = casesWith room r ++ more in
     let one = peel 0 (eqb (r .kind) 1 || eqb (r .kind) 2) (drop 1 cs) e in
-    let two = peel 1 (leb (r .flags) 1 && eqb (r .byte2) 0 && eqb (r .byte3) 0) (drop 2 cs) (one .1) in
+    let two = peel 1 (areFlags r) (drop 2 cs) (one .1) in
     let three = peel 2 (every isCoordinate (r .points)) (drop 3 cs) (two .1) in
-    let four = peel 3 (isSeparation (r .separation)) (drop 4 cs) (three .1) in
+    let four = peel 3 (room && areSeparations r) (drop 4 cs) (three .1) in
     let five = peel 4 (isTolerance (r .tolerance)) (drop 5 cs) (four .1) in
     let six = peel 5 (isBudget (r .budget)) more (five .1) in
-    let flags = and-eq-true-iff (leb (r .flags) 1 && eqb (r .byte2) 0) (eqb (r .byte3) 0) .0 (two .0) in
-    let flags2 = and-eq-true-iff (leb (r .flags) 1) (eqb (r .byte2) 0) .0 (flags .0) in (
+    let spare = and-eq-true-iff (leb (r .flags) 1 && eqb (r .byte2) 0 && eqb (r .byte3) 0) (eqb (r .spare) 0) .0 (two .0) in
+    let flags = and-eq-true-iff (leb (r .flags) 1 && eqb (r .byte2) 0) (eqb (r .byte3) 0) .0 (spare .0) in
+    let flags2 = and-eq-true-iff (leb (r .flags) 1) (eqb (r .byte2) 0) .0 (flags .0) in
+    let held = and-eq-true-iff room (areSeparations r) .0 (four .0) in
+    let z = and-eq-true-iff (isSeparation (r .dx) && isSeparation (r .dy)) (isSeparation (r .dz)) .0 (held .1) in
+    let y = and-eq-true-iff (isSeparation (r .dx)) (isSeparation (r .dy)) .0 (z .0) in (
       record {
         kind = ⊎-map (eqb-true (r .kind) 1) (eqb-true (r .kind) 2) (either (eqb (r .kind) 1) (eqb (r .kind) 2) (one .0));
         flags = leb-true (r .flags) 1 (flags2 .0);
         byte2 = eqb-true (r .byte2) 0 (flags2 .1);
         byte3 = eqb-true (r .byte3) 0 (flags .1);
         coordinate = λ i. leb-true _ 1048576 (every-at isCoordinate (r .points) (three .0) refl i);
-        separation = in-range 0 65536 (r .separation) (four .0) .1;
+        spare = eqb-true (r .spare) 0 (spare .1);
+        dx = in-range 0 65536 (r .dx) (y .0) .1;
+        dy = in-range 0 65536 (r .dy) (y .1) .1;
+        dz = in-range 0 65536 (r .dz) (z .1) .1;
         tolerance-least = in-range 16 1048576 (r .tolerance) (five .0) .0;
         tolerance-most = in-range 16 1048576 (r .tolerance) (five .0) .1;
         budget-least = in-range 1 1000000 (r .budget) (six .0) .0;
         budget-most = in-range 1 1000000 (r .budget) (six .0) .1;
       },
+      held .0,
       six .1,
     )
 
 pub accepted : (r : Record) → recordRefusal r ≡ 0 → Accepted r
 unfolding recordRefusal
-accepted r e = accepted-before r [] e .0
+accepted r e = accepted-with true r [] e .0
 
 pub accepted-search : (r : Record) (words : ℕ) → searchRefusal r words ≡ 0 → AcceptedSearch r words
 unfolding searchRefusal
 accepted-search r words e =
-    let h = accepted-before r (record { number = 7; due = not (isQueue words) } ∷ []) e in
-    let q = in-range 2 1048576 words (peel 6 (isQueue words) [] (h .1) .0) in
+    let h = accepted-with true r (record { number = 7; due = not (isQueue words) } ∷ []) e in
+    let q = in-range 2 1048576 words (peel 6 (isQueue words) [] (h .2) .0) in
     record { query = h .0; words-least = q .0; words-most = q .1 }

@@ -3,7 +3,7 @@ ghost use mathlib.Core.Path.{_≡_};
 ghost use mathlib.Core.Bool.{_&&_, _||_, cond};
 ghost use lib.Dec.{eqb, leb};
 ghost use Rattle.rules.specs.Numbers.{between, isCoordinate, isQueue};
-ghost use Rattle.rules.specs.Refusals.{every, recordCases, recordRefusal, searchRefusal};
+ghost use Rattle.rules.specs.Refusals.{every, areFlags, areSeparations, recordCases, casesWith, recordRefusal, searchRefusal};
 ghost use Rattle.refusals.specs.Cases.{firstOr};
 use rules::Record;
 
@@ -20,10 +20,16 @@ fn is_kind(kind: u8) -> bool
     (kind == 1) | (kind == 2)
 }
 
-fn are_flags(flags: u8, byte2: u8, byte3: u8) -> bool
-    ensures { λ b. ⌜ b ≡ (leb flags 1 && eqb byte2 0 && eqb byte3 0) ⌝ }
+fn are_flags(r: Record) -> bool
+    ensures { λ b. ⌜ b ≡ areFlags r ⌝ }
 {
-    (flags <= 1) & (byte2 == 0) & (byte3 == 0)
+    (r.flags <= 1) & (r.byte2 == 0) & (r.byte3 == 0) & (r.spare == 0)
+}
+
+fn are_separations(r: Record) -> bool
+    ensures { λ b. ⌜ b ≡ areSeparations r ⌝ }
+{
+    is_between(0, 65536, r.dx) & is_between(0, 65536, r.dy) & is_between(0, 65536, r.dz)
 }
 
 // Nothing is negated here: the least i32 has no negative.
@@ -58,16 +64,16 @@ pub fn first(due: bool, number: u32, rest: u32) -> u32
     if due { number } else { rest }
 }
 
-// The first of 1 to 6 that is due, else `rest`: from the last row to the first.
-fn record_refusal_or(r: Record, rest: u32) -> u32
-    ensures { λ n. ⌜ n ≡ firstOr (recordCases r) rest ⌝ }
+// The first of 1 to 6 that is due, else `rest`: from the last row to the first. 4 also where there is no room for the separations.
+pub fn refusal_with(room: bool, r: Record, rest: u32) -> u32
+    ensures { λ n. ⌜ n ≡ firstOr (casesWith room r) rest ⌝ }
 {
     let points = r.points;
     let six = first(!is_between(1, 1000000, r.budget), 6, rest);
     let five = first(!is_between(16, 1048576, r.tolerance), 5, six);
-    let four = first(!is_between(0, 65536, r.separation), 4, five);
+    let four = first(!(room & are_separations(r)), 4, five);
     let three = first(!are_coordinates(points), 3, four);
-    let two = first(!are_flags(r.flags, r.byte2, r.byte3), 2, three);
+    let two = first(!are_flags(r), 2, three);
     first(!is_kind(r.kind), 1, two)
 }
 
@@ -75,12 +81,12 @@ fn record_refusal_or(r: Record, rest: u32) -> u32
 pub fn record_refusal(r: Record) -> u32
     ensures { λ n. ⌜ n ≡ recordRefusal r ⌝ }
 {
-    record_refusal_or(r, 0)
+    refusal_with(true, r, 0)
 }
 
 // What a search of it with so many queue words is refused for, 1 to 7; 0: nothing.
 pub fn search_refusal(r: Record, words: usize) -> u32
     ensures { λ n. ⌜ n ≡ searchRefusal r words ⌝ }
 {
-    record_refusal_or(r, first(!is_queue(words), 7, 0))
+    refusal_with(true, r, first(!is_queue(words), 7, 0))
 }

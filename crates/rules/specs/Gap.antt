@@ -53,9 +53,11 @@ isVertexFace r = eqb (r .kind) 1
 unfoldable pub sided : Record → List ℤ
 sided r = cond (eqb (r .flags % 2) 1) (negateFrom (isSecondY (isVertexFace r)) 0 (r .points)) (r .points)
 
--- document 01 has one separation for all axes
+-- document 02, R-4: "each axis" has "that axis's own separation"
 abbrev pub separationOn : Record → Axis → ℕ
-separationOn r axis = r .separation
+separationOn r X = r .dx
+separationOn r Y = r .dy
+separationOn r Z = r .dz
 
 -- a rational moment and place: t = a/q, u = b/q, v = c/q
 pub record Place : Type 0 where
@@ -72,7 +74,7 @@ pub record OnBodies (r : Record) (m : Place) : Type 0 where
   pub v : m .c ≤ m .q
   pub face : T (isVertexFace r) → m .b + m .c ≤ m .q
 
--- "The gap is the largest of |Fx|, |Fy|, |Fz|. Contact means gap at most d": each of the three is
+-- document 02, R-4: "Contact now means that |F| on each axis is at most that axis's own separation"
 abbrev pub Contact : Record → Place → Type 0
 Contact r m =
     (axis : Axis) → natAbs (gapOn (isVertexFace r) (sided r) axis (m .q) (m .a) (m .b) (m .c)) ≤ separationOn r axis * (m .q * m .q)

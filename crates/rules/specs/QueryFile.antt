@@ -13,7 +13,7 @@ use Rattle.rules.specs.declared.Opened.the-variants as Open
 use Rattle.rules.specs.declared.Fetched.{Fetched}
 use Rattle.rules.specs.declared.Wrote.{Wrote}
 use Rattle.rules.specs.declared.Wrote.the-variants as Write
-use Rattle.rules.specs.Refusals.{Case, first, recordCases, recordRefusal}
+use Rattle.rules.specs.Refusals.{Case, first, casesWith, recordRefusal}
 
 -- ---- numbers as bytes
 
@@ -58,9 +58,12 @@ recordAt s at = record {
   byte2 = getD s (at + 2) 0;
   byte3 = getD s (at + 3) 0;
   id = word s (at + 4);
-  separation = word s (at + 8);
+  dx = word s (at + 8);
+  dy = word s (at + 8);
+  dz = word s (at + 8);
   tolerance = word s (at + 12);
   budget = word s (at + 16);
+  spare = 0;
   points = coordinatesAt s (at + 20) 24;
 }
 
@@ -68,7 +71,7 @@ unfoldable pub recordBytes : Record → List ℕ
 recordBytes r =
     (r .kind ∷ r .flags ∷ r .byte2 ∷ r .byte3 ∷ [])
     ++ wordBytes (r .id)
-    ++ wordBytes (r .separation)
+    ++ wordBytes (r .dx)
     ++ wordBytes (r .tolerance)
     ++ wordBytes (r .budget)
     ++ coordinateBytes (r .points)
@@ -146,9 +149,12 @@ noRecord = record {
   byte2 = 0;
   byte3 = 0;
   id = 0;
-  separation = 0;
+  dx = 0;
+  dy = 0;
+  dz = 0;
   tolerance = 0;
   budget = 0;
+  spare = 0;
   points = replicate 24 (pos 0);
 }
 
@@ -170,9 +176,13 @@ put s at bytes = take at s ++ bytes ++ drop (at + length bytes) s
 abbrev pub space : List ℕ → ℕ → ℕ → Case
 space s at n = record { number = 14; due = ltb (length s - at) n }
 
+-- an edition 1 record has one separation: room for three only where they are equal
+abbrev pub hasRoom : Record → Bool
+hasRoom r = eqb (r .dx) (r .dy) && eqb (r .dx) (r .dz)
+
 -- "Writing a record: 1 to 6, then 14."
 unfoldable pub writeRefusal : List ℕ → ℕ → Record → ℕ
-writeRefusal s at r = first (recordCases r ++ (space s at 116 ∷ []))
+writeRefusal s at r = first (casesWith (hasRoom r) r ++ (space s at 116 ∷ []))
 
 -- "Writing a trailer behind records: 11, then 12 (fewer bytes before it than 116 times the count), then 14." The bytes before it are the
 -- place itself, also where that lies past the end

@@ -22,16 +22,28 @@ unfoldable pub every : (ℤ → Bool) → List ℤ → Bool
 every f [] = true
 every f (c ∷ cs) = f c && every f cs
 
--- 1 KIND, 2 FLAGS, 3 COORD, 4 SEPARATION, 5 TOLERANCE, 6 BUDGET, each "given exactly when"
-abbrev pub recordCases : Record → List Case
-recordCases r =
+-- "a flag bit above bit 0, or byte 2 or 3 not zero"; "2 also for a word at 28 that isn't zero" (document 02, R-4)
+abbrev pub areFlags : Record → Bool
+areFlags r = leb (r .flags) 1 && eqb (r .byte2) 0 && eqb (r .byte3) 0 && eqb (r .spare) 0
+
+-- "4 for any of the three" (document 02, R-4)
+abbrev pub areSeparations : Record → Bool
+areSeparations r = isSeparation (r .dx) && isSeparation (r .dy) && isSeparation (r .dz)
+
+-- 1 KIND, 2 FLAGS, 3 COORD, 4 SEPARATION, 5 TOLERANCE, 6 BUDGET, each "given exactly when"; 4 also where there is no room for the separations
+abbrev pub casesWith : Bool → Record → List Case
+casesWith room r =
     record { number = 1; due = not (eqb (r .kind) 1 || eqb (r .kind) 2) }
-    ∷ record { number = 2; due = not (leb (r .flags) 1 && eqb (r .byte2) 0 && eqb (r .byte3) 0) }
+    ∷ record { number = 2; due = not (areFlags r) }
     ∷ record { number = 3; due = not (every isCoordinate (r .points)) }
-    ∷ record { number = 4; due = not (isSeparation (r .separation)) }
+    ∷ record { number = 4; due = not (room && areSeparations r) }
     ∷ record { number = 5; due = not (isTolerance (r .tolerance)) }
     ∷ record { number = 6; due = not (isBudget (r .budget)) }
     ∷ []
+
+-- a record by itself has room for them
+abbrev pub recordCases : Record → List Case
+recordCases = casesWith true
 
 -- what a record is refused for by itself
 unfoldable pub recordRefusal : Record → ℕ

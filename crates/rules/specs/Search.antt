@@ -96,7 +96,7 @@ onAll f = f X && f Y && f Z
 abbrev pub largest : (Axis → ℕ) → ℕ
 largest f = max (f X) (max (f Y) (f Z))
 
--- "The box survives when m is at most d and M at least -d on all three axes."
+-- "The box survives when m is at most d and M at least -d on all three axes." "Survival of a box uses each axis's own" (document 02, R-4)
 unfoldable pub survives : Query → Depths → Box → Bool
 survives q k box =
     onAll (λ axis. leZ (least q k box axis) (pos (q .separation axis * unit)) && leZ (negℤ (pos (q .separation axis * unit))) (greatest q k box axis))
@@ -109,7 +109,7 @@ width q k box = largest (λ axis. natAbs (greatest q k box axis -ℤ least q k b
 abbrev pub roundUp : ℕ → ℕ
 roundUp n = (n + (unit - 1)) / unit
 
--- "Its excess is gap minus d at that corner, zero if negative, rounded up to a whole unit."
+-- "excess is the largest of |F| minus separation over the axes, zero if negative" (document 02, R-4) at that corner, "rounded up to a whole unit"
 unfoldable pub excess : Query → Depths → Box → ℕ
 excess q k box =
     roundUp (largest (λ axis. natAbs (q .gap axis parts (low (k .t) (box .t)) (low (k .u) (box .u)) (low (k .v) (box .v))) - q .separation axis * unit))

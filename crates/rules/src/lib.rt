@@ -1,6 +1,7 @@
 // The values that document 01 speaks of, by value. The rules themselves stand in specs/.
 
 // A query as it is handed to the search or to a writer: every field of the file's record.
+// dx, dy, dz are the separations; `spare` is the word at 28 of edition 2, and 0 in edition 1.
 // The points are p, v1, v2, v3 or p1, p2, p3, p4 at the start, then the same four at the end; x, y, z of each.
 pub struct Record {
     pub kind: u8,
@@ -8,9 +9,12 @@ pub struct Record {
     pub byte2: u8,
     pub byte3: u8,
     pub id: u32,
-    pub separation: u32,
+    pub dx: u32,
+    pub dy: u32,
+    pub dz: u32,
     pub tolerance: u32,
     pub budget: u32,
+    pub spare: u32,
     pub points: [i32; 24],
 }
 

@@ -1,6 +1,8 @@
 -- `gap::prepare` meets its contract.
 use borrow.Author.Needs.{needs}
+use native.Mathlib.Omega.{arith}
 use lib.Dec.{lit≤}
+use Rattle.refusals.specs.Accepted.{accepted-search}
 use Rattle.gap.specs.Prepared.{coordinates, pair-prepared}
 use Rattle.gap.proofs.prepare.Statement.{statement}
 use Rattle.gap.proofs.prepare.Tie as tie
@@ -14,17 +16,24 @@ kernel-at-requires-2 c κs = let s = c .before .before .before .before in (lit�
 kernel-at-requires-3 : tie.Need-kernel-at-requires-3
 kernel-at-requires-3 c κs = let s = c .before .before .before .before .before in (lit≤ tt, coordinates (s .args .r) (s .args .words) (s .pre))
 
-cast-d : tie.Need-cast-d
-cast-d c = search needs
+cast-dx : tie.Need-cast-dx
+cast-dx c = search needs
+
+cast-dy : tie.Need-cast-dy
+cast-dy c = search needs
+
+cast-dz : tie.Need-cast-dz
+cast-dz c = let s = c .before .before .before .before .before .before .before .before .before in record { fits = omega (arith, accepted-search (s .args .r) (s .args .words) (s .pre) .query .dz) }
 
 cast-tolerance : tie.Need-cast-tolerance
-cast-tolerance c = search needs
+cast-tolerance c = let s = c .before .before .before .before .before .before .before .before .before .before in record { fits = omega (arith, accepted-search (s .args .r) (s .args .words) (s .pre) .query .tolerance-most) }
 
 returns : tie.Need-returns
 returns c =
-    let s = c .before .before .before .before .before .before .before .before in
-    rw (c .before .before .before .before .kernel-at .ensures, c .before .before .before .kernel-at2 .ensures, c .before .before .kernel-at3 .ensures) (pair-prepared (s .args .r) (s .args .words) (s .pre))
+    let k = c .before .before .before .before .before .before in
+    let s = k .before .before .before .before in
+    rw (k .kernel-at .ensures, c .before .before .before .before .before .kernel-at2 .ensures, c .before .before .before .before .kernel-at3 .ensures) (pair-prepared (s .args .r) (s .args .words) (s .pre))
 
 pub prepare-spec : {M : Type 1} → statement M
 prepare-spec =
-    tie.close (tie.spec kernel-at-requires kernel-at-requires-2 kernel-at-requires-3 cast-d cast-tolerance returns)
+    tie.close (tie.spec kernel-at-requires kernel-at-requires-2 kernel-at-requires-3 cast-dx cast-dy cast-dz cast-tolerance returns)

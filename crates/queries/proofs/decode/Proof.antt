@@ -55,15 +55,29 @@ add-read-u32-4 c = search needs
 read-u32-requires-4 : tie.Need-read-u32-requires-4
 read-u32-requires-4 c κs = search needs
 
+add-read-u32-5 : tie.Need-add-read-u32-5
+add-read-u32-5 c = search needs
+
+read-u32-requires-5 : tie.Need-read-u32-requires-5
+read-u32-requires-5 c κs = search needs
+
+add-read-u32-6 : tie.Need-add-read-u32-6
+add-read-u32-6 c = search needs
+
+read-u32-requires-6 : tie.Need-read-u32-requires-6
+read-u32-requires-6 c κs = search needs
+
 returns : tie.Need-returns
 unfolding recordAt
 returns c =
     simp (
-      c .before .before .before .read-u32 .ensures,
-      c .before .before .read-u322 .ensures,
-      c .before .read-u323 .ensures,
-      c .read-u324 .ensures,
-      c .before .before .before .before .before .before .before .before .read-points .ensures,
+      c .before .before .before .before .before .read-u32 .ensures,
+      c .before .before .before .before .read-u322 .ensures,
+      c .before .before .before .read-u323 .ensures,
+      c .before .before .read-u324 .ensures,
+      c .before .read-u325 .ensures,
+      c .read-u326 .ensures,
+      c .before .before .before .before .before .before .before .before .before .before .read-points .ensures,
     )
 
 pub decode-spec : {M : Type 1} → statement M
@@ -87,4 +101,8 @@ decode-spec =
     read-u32-requires-3
     add-read-u32-4
     read-u32-requires-4
+    add-read-u32-5
+    read-u32-requires-5
+    add-read-u32-6
+    read-u32-requires-6
     returns)

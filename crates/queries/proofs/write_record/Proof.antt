@@ -7,10 +7,10 @@ use Rattle.queries.proofs.write_record.Statement.{statement}
 use Rattle.queries.proofs.write_record.Tie as tie
 
 -- the number that the tests come to
-number : (c : tie.After-first2) → let a = c .before .before .before .before .before .args in c .first2 .result ≡ writeRefusal (a .s .now) (a .at) (a .r)
+number : (c : tie.After-refusal-with) → let a = c .before .before .before .before .before .args in c .refusal-with .result ≡ writeRefusal (a .s .now) (a .at) (a .r)
 number c =
     let a = c .before .before .before .before .before .args in
-    simp (c .first2 .ensures, c .before .record-refusal .ensures, c .before .before .first .ensures, c .before .before .before .left-from .ensures)
+    simp (c .refusal-with .ensures, c .before .has-room .ensures, c .before .before .first .ensures, c .before .before .before .left-from .ensures)
     (sym (write-is (a .s .now) (a .at) (a .r)))
 
 left-from-requires : tie.Need-left-from-requires
@@ -19,23 +19,23 @@ left-from-requires c κs = search needs
 first-requires : tie.Need-first-requires
 first-requires c κs = search needs
 
-record-refusal-requires : tie.Need-record-refusal-requires
-record-refusal-requires c κs = search needs
+has-room-requires : tie.Need-has-room-requires
+has-room-requires c κs = search needs
 
-first-requires-2 : tie.Need-first-requires-2
-first-requires-2 c κs = search needs
+refusal-with-requires : tie.Need-refusal-with-requires
+refusal-with-requires c κs = search needs
 
 returns : tie.Need-returns
 returns c =
     let k = c .before in
     let a = k .before .before .before .before .before .args in
-    refused-write (writeRefusal (a .s .now) (a .at) (a .r)) (a .s .now) (a .at) (recordBytes (a .r)) (k .first2 .result) (number k) (c .if1 .taken)
+    refused-write (writeRefusal (a .s .now) (a .at) (a .r)) (a .s .now) (a .at) (recordBytes (a .r)) (k .refusal-with .result) (number k) (c .if1 .taken)
 
 encode-requires : tie.Need-encode-requires
 encode-requires c κs =
     let k = c .before .before in
     let a = k .before .before .before .before .before .args in
-    write-room (a .s .now) (a .at) (a .r) (sym (number k) ∙ c .before .if1 .left) .1
+    write-room (a .s .now) (a .at) (a .r) (sym (number k) ∙ c .before .if1 .left) .2
 
 same-length : tie.Need-same-length
 same-length c = search needs
@@ -45,7 +45,7 @@ returns-2 c =
     let w = c .before .before in
     let k = w .before .before .before in
     let a = k .before .before .before .before .before .args in
-    done-write (writeRefusal (a .s .now) (a .at) (a .r)) (a .s .now) (a .at) (recordBytes (a .r)) (k .first2 .result) (w .encode .last .0)
+    done-write (writeRefusal (a .s .now) (a .at) (a .r)) (a .s .now) (a .at) (recordBytes (a .r)) (k .refusal-with .result) (w .encode .last .0)
     (number k) (w .before .before .if1 .left) (w .encode .ensures)
 
 pub write-record-spec : {M : Type 1} → statement M
@@ -54,8 +54,8 @@ write-record-spec =
     (tie.spec
     left-from-requires
     first-requires
-    record-refusal-requires
-    first-requires-2
+    has-room-requires
+    refusal-with-requires
     returns
     encode-requires
     same-length

@@ -6,12 +6,12 @@ use borrow.Author.Needs.{needs}
 use Rattle.refusals.proofs.record_refusal.Statement.{statement}
 use Rattle.refusals.proofs.record_refusal.Tie as tie
 
-record-refusal-or-requires : tie.Need-record-refusal-or-requires
-record-refusal-or-requires c κs = search needs
+refusal-with-requires : tie.Need-refusal-with-requires
+refusal-with-requires c κs = search needs
 
 returns : tie.Need-returns
 unfolding recordRefusal
-returns c = c .record-refusal-or .ensures ∙ sym (first-alone (recordCases (c .before .args .r)))
+returns c = c .refusal-with .ensures ∙ sym (first-alone (recordCases (c .before .args .r)))
 
 pub record-refusal-spec : {M : Type 1} → statement M
-record-refusal-spec = tie.close (tie.spec record-refusal-or-requires returns)
+record-refusal-spec = tie.close (tie.spec refusal-with-requires returns)

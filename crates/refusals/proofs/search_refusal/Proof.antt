@@ -15,8 +15,8 @@ is-queue-requires c κs = search needs
 first-requires : tie.Need-first-requires
 first-requires c κs = search needs
 
-record-refusal-or-requires : tie.Need-record-refusal-or-requires
-record-refusal-or-requires c κs = search needs
+refusal-with-requires : tie.Need-refusal-with-requires
+refusal-with-requires c κs = search needs
 
 returns : tie.Need-returns
 unfolding searchRefusal first
@@ -24,8 +24,8 @@ returns c =
     let a = c .before .before .before .args in
     let seven : List Case = record { number = 7; due = not (isQueue (a .words)) } ∷ [] in
     let e : c .before .first .result ≡ first seven = simp (c .before .first .ensures, c .before .before .is-queue .ensures) in
-    c .record-refusal-or .ensures ∙ ap (firstOr (recordCases (a .r))) e ∙ sym (first-append (recordCases (a .r)) seven)
+    c .refusal-with .ensures ∙ ap (firstOr (recordCases (a .r))) e ∙ sym (first-append (recordCases (a .r)) seven)
 
 pub search-refusal-spec : {M : Type 1} → statement M
 search-refusal-spec =
-    tie.close (tie.spec is-queue-requires first-requires record-refusal-or-requires returns)
+    tie.close (tie.spec is-queue-requires first-requires refusal-with-requires returns)

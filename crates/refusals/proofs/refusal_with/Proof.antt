@@ -1,8 +1,8 @@
--- `refusals::record_refusal_or` meets its contract: each call is a row of the table. Assumes nothing.
+-- `refusals::refusal_with` meets its contract: each call is a row of the table. Assumes nothing.
 use Rattle.refusals.specs.Cases.{firstOr}
 use borrow.Author.Needs.{needs}
-use Rattle.refusals.proofs.record_refusal_or.Statement.{statement}
-use Rattle.refusals.proofs.record_refusal_or.Tie as tie
+use Rattle.refusals.proofs.refusal_with.Statement.{statement}
+use Rattle.refusals.proofs.refusal_with.Tie as tie
 
 is-between-requires : tie.Need-is-between-requires
 is-between-requires c κs = search needs
@@ -16,8 +16,8 @@ is-between-requires-2 c κs = search needs
 first-requires-2 : tie.Need-first-requires-2
 first-requires-2 c κs = search needs
 
-is-between-requires-3 : tie.Need-is-between-requires-3
-is-between-requires-3 c κs = search needs
+are-separations-requires : tie.Need-are-separations-requires
+are-separations-requires c κs = search needs
 
 first-requires-3 : tie.Need-first-requires-3
 first-requires-3 c κs = search needs
@@ -51,22 +51,22 @@ returns c =
       c .before .before .before .before .first4 .ensures,
       c .before .before .before .before .before .are-coordinates .ensures,
       c .before .before .before .before .before .before .first3 .ensures,
-      c .before .before .before .before .before .before .before .is-between3 .ensures,
+      c .before .before .before .before .before .before .before .are-separations .ensures,
       c .before .before .before .before .before .before .before .before .first2 .ensures,
       c .before .before .before .before .before .before .before .before .before .is-between2 .ensures,
       c .before .before .before .before .before .before .before .before .before .before .first .ensures,
       c .before .before .before .before .before .before .before .before .before .before .before .is-between .ensures,
     )
 
-pub record-refusal-or-spec : {M : Type 1} → statement M
-record-refusal-or-spec =
+pub refusal-with-spec : {M : Type 1} → statement M
+refusal-with-spec =
     tie.close
     (tie.spec
     is-between-requires
     first-requires
     is-between-requires-2
     first-requires-2
-    is-between-requires-3
+    are-separations-requires
     first-requires-3
     are-coordinates-requires
     first-requires-4
