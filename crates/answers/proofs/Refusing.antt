@@ -8,23 +8,23 @@ use lib.Dec.{ltb}
 use native.Mathlib.Omega.{arith}
 use lib.ListN.{length, set}
 use Rattle.rules.specs.Refusals.{Case, first}
-use Rattle.rules.specs.QueryFile.{queryForm, recordCount, openCases, openRefusal, put, putUnless}
+use Rattle.rules.specs.QueryFile.{fileForm, recordCount, openCases, openRefusal, put, putUnless}
 use Rattle.refusals.specs.Cases.{orElse, first-then}
 use Rattle.answers.specs.Walk.{short, queueUnless, Does, Counted, oneRefusal, allRefusal, countRefusal}
 
 module _ (s : List ℕ) (more : List Case) where
-  refused-first : (k : ℕ) → openRefusal queryForm s ≡ k → (k ≡ 0 → ⊥) → first (openCases queryForm s ++ more) ≡ k
+  refused-first : (k : ℕ) → openRefusal (fileForm s) s ≡ k → (k ≡ 0 → ⊥) → first (openCases (fileForm s) s ++ more) ≡ k
   unfolding openRefusal
   refused-first zero e h = absurd (h refl)
-  refused-first (suc k) e h = first-then (openCases queryForm s) more tt ∙ ap (λ (m : ℕ). orElse m (first more)) e
+  refused-first (suc k) e h = first-then (openCases (fileForm s) s) more tt ∙ ap (λ (m : ℕ). orElse m (first more)) e
 
-  opens-first : openRefusal queryForm s ≡ 0 → first (openCases queryForm s ++ more) ≡ first more
+  opens-first : openRefusal (fileForm s) s ≡ 0 → first (openCases (fileForm s) s ++ more) ≡ first more
   unfolding openRefusal
-  opens-first e = first-then (openCases queryForm s) more tt ∙ ap (λ (m : ℕ). orElse m (first more)) e
+  opens-first e = first-then (openCases (fileForm s) s) more tt ∙ ap (λ (m : ℕ). orElse m (first more)) e
 
 -- ---- the numbers
 
-module _ (s out : List ℕ) (k : ℕ) (e : openRefusal queryForm s ≡ k) (h : k ≡ 0 → ⊥) where
+module _ (s out : List ℕ) (k : ℕ) (e : openRefusal (fileForm s) s ≡ k) (h : k ≡ 0 → ⊥) where
   pub one-refused : (n : ℕ) → k ≡ oneRefusal s n out
   unfolding oneRefusal
   one-refused n = sym (refused-first s _ k e h)
@@ -37,7 +37,7 @@ module _ (s out : List ℕ) (k : ℕ) (e : openRefusal queryForm s ≡ k) (h : k
   unfolding countRefusal
   count-refused = sym (refused-first s _ k e h)
 
-module _ (s out : List ℕ) (e : openRefusal queryForm s ≡ 0) where
+module _ (s out : List ℕ) (e : openRefusal (fileForm s) s ≡ 0) where
   rows : ℕ → List Case
   rows n = record { number = 13; due = not (ltb n (recordCount s)) } ∷ short out 8 ∷ []
 

@@ -11,7 +11,7 @@ use Rattle.rules.specs.declared.Answer.{Answer}
 use Rattle.rules.specs.declared.Answer.the-variants.{Met, Clear, Spent, Room, Floor, Refused}
 use Rattle.rules.specs.Answers.{told, queueAfter}
 use Rattle.rules.specs.Search.{search}
-use Rattle.rules.specs.QueryFile.{recordAt, put, trailerPlace, backPointer, recordCount, placeOf}
+use Rattle.rules.specs.QueryFile.{isWide, sizeBy, recordSize, recordAt, editionOf, put, trailerPlace, backPointer, recordCount, placeOf}
 use Rattle.little.specs.Put.{put-nil, length-put, one-more}
 use Rattle.answers.specs.Eight.{eight}
 use Rattle.answers.specs.Walk.{tells, tellsFrom, queueFrom}
@@ -19,35 +19,40 @@ use Rattle.search.specs.Levels.{Clean}
 use Rattle.answers.specs.Step.{isAnswered, Answered}
 
 -- the place of record i behind the first
-next-place : (at n : ℕ) → at + 116 + 116 * n ≡ at + 116 * suc n
-next-place at n = omega arith
+next-place : (wide : Bool) (at n : ℕ) → at + sizeBy wide + sizeBy wide * n ≡ at + sizeBy wide * suc n
+next-place true at n = omega arith
+next-place false at n = omega arith
 
-pub tells-more : (s : List ℕ) (words n at : ℕ) → tellsFrom s words (suc n) at ≡ tellsFrom s words n at ++ tells (recordAt s (at + 116 * n)) words
+first-place : (wide : Bool) (at : ℕ) → at ≡ at + sizeBy wide * 0
+first-place true at = omega arith
+first-place false at = omega arith
+
+pub tells-more : (edition : ℕ) (s : List ℕ) (words n at : ℕ) → tellsFrom edition s words (suc n) at ≡ tellsFrom edition s words n at ++ tells (recordAt edition s (at + recordSize edition * n)) words
 unfolding tellsFrom
-tells-more s words zero at =
-    let e : at ≡ at + 116 * 0 = omega arith in
-    append-nil (tells (recordAt s at) words) ∙ ap (λ (k : ℕ). tells (recordAt s k) words) e
-tells-more s words (suc n) at =
-    ap (λ (l : List ℕ). tells (recordAt s at) words ++ l) (tells-more s words n (at + 116))
-    ∙ sym (append-assoc (tells (recordAt s at) words) (tellsFrom s words n (at + 116)) (tells (recordAt s (at + 116 + 116 * n)) words))
-    ∙ ap (λ (k : ℕ). tells (recordAt s at) words ++ tellsFrom s words n (at + 116) ++ tells (recordAt s k) words) (next-place at n)
+tells-more edition s words zero at =
+    let e = first-place (isWide edition) at in
+    append-nil (tells (recordAt edition s at) words) ∙ ap (λ (k : ℕ). tells (recordAt edition s k) words) e
+tells-more edition s words (suc n) at =
+    ap (λ (l : List ℕ). tells (recordAt edition s at) words ++ l) (tells-more edition s words n (at + recordSize edition))
+    ∙ sym (append-assoc (tells (recordAt edition s at) words) (tellsFrom edition s words n (at + recordSize edition)) (tells (recordAt edition s (at + recordSize edition + recordSize edition * n)) words))
+    ∙ ap (λ (k : ℕ). tells (recordAt edition s at) words ++ tellsFrom edition s words n (at + recordSize edition) ++ tells (recordAt edition s k) words) (next-place (isWide edition) at n)
 
-pub length-tells : (s : List ℕ) (words n at : ℕ) → length (tellsFrom s words n at) ≡ 8 * n
+pub length-tells : (edition : ℕ) (s : List ℕ) (words n at : ℕ) → length (tellsFrom edition s words n at) ≡ 8 * n
 unfolding tellsFrom tells
-length-tells s words zero at = refl
-length-tells s words (suc n) at =
-    length-append (tells (recordAt s at) words) (tellsFrom s words n (at + 116)) ∙ ap (λ (k : ℕ). 8 + k) (length-tells s words n (at + 116)) ∙ omega arith
+length-tells edition s words zero at = refl
+length-tells edition s words (suc n) at =
+    length-append (tells (recordAt edition s at) words) (tellsFrom edition s words n (at + recordSize edition)) ∙ ap (λ (k : ℕ). 8 + k) (length-tells edition s words n (at + recordSize edition)) ∙ omega arith
 
-pub queue-more : (s : List ℕ) (n at : ℕ) (queue : List ℕ)
-    → queueFrom s (suc n) at queue ≡ queueAfter (search (recordAt s (at + 116 * n)) (length (queueFrom s n at queue))) (queueFrom s n at queue)
+pub queue-more : (edition : ℕ) (s : List ℕ) (n at : ℕ) (queue : List ℕ)
+    → queueFrom edition s (suc n) at queue ≡ queueAfter (search (recordAt edition s (at + recordSize edition * n)) (length (queueFrom edition s n at queue))) (queueFrom edition s n at queue)
 unfolding queueFrom
-queue-more s zero at queue =
-    let e : at ≡ at + 116 * 0 = omega arith in
-    ap (λ (k : ℕ). queueAfter (search (recordAt s k) (length queue)) queue) e
-queue-more s (suc n) at queue =
-    let q = queueAfter (search (recordAt s at) (length queue)) queue in
-    queue-more s n (at + 116) q
-    ∙ ap (λ (k : ℕ). queueAfter (search (recordAt s k) (length (queueFrom s n (at + 116) q))) (queueFrom s n (at + 116) q)) (next-place at n)
+queue-more edition s zero at queue =
+    let e = first-place (isWide edition) at in
+    ap (λ (k : ℕ). queueAfter (search (recordAt edition s k) (length queue)) queue) e
+queue-more edition s (suc n) at queue =
+    let q = queueAfter (search (recordAt edition s at) (length queue)) queue in
+    queue-more edition s n (at + recordSize edition) q
+    ∙ ap (λ (k : ℕ). queueAfter (search (recordAt edition s k) (length (queueFrom edition s n (at + recordSize edition) q))) (queueFrom edition s n (at + recordSize edition) q)) (next-place (isWide edition) at n)
 
 -- no answer changes how many words there are
 pub length-after : (a : Answer) (queue : List ℕ) → length (queueAfter a queue) ≡ length queue
@@ -73,72 +78,81 @@ clean-after (Spent t u v excess count) clean queue h = λ _. zeros queue
 clean-after (Room t u v excess count) clean queue h = λ _. zeros queue
 clean-after (Floor t u v excess count) clean queue h = λ _. zeros queue
 
+-- record i of so many stands within them
+pub record-in : (wide : Bool) (first count i n : ℕ) → i < count → first + sizeBy wide * count ≤ n → first + sizeBy wide * i + sizeBy wide ≤ n
+record-in true first count i n h k = omega arith
+record-in false first count i n h k = omega arith
+
 -- ---- the walk: i records are told, and the queue is as they leave it
-pub record Walked (s : List ℕ) (first count : ℕ) (queue₀ out₀ queue out : List ℕ) (clean : Bool) (i : ℕ) : Type 0 where
+pub record Walked (edition : ℕ) (s : List ℕ) (first count : ℕ) (queue₀ out₀ queue out : List ℕ) (clean : Bool) (i : ℕ) : Type 0 where
   pub few : i ≤ count
-  pub told : out ≡ put out₀ 0 (tellsFrom s (length queue₀) i first)
-  pub left : queue ≡ queueFrom s i first queue₀
+  pub told : out ≡ put out₀ 0 (tellsFrom edition s (length queue₀) i first)
+  pub left : queue ≡ queueFrom edition s i first queue₀
   pub words : length queue ≡ length queue₀
   pub numbers : length out ≡ length out₀
   pub zero : Clean clean queue
 
-pub walked-none : (s : List ℕ) (first count : ℕ) (queue out : List ℕ) → Walked s first count queue out queue out false 0
+pub walked-none : (edition : ℕ) (s : List ℕ) (first count : ℕ) (queue out : List ℕ) → Walked edition s first count queue out queue out false 0
 unfolding tellsFrom queueFrom
-walked-none s first count queue out =
+walked-none edition s first count queue out =
     record { few = omega arith; told = sym (put-nil out 0); left = refl; words = refl; numbers = refl; zero = λ e. let z : _≡_ {A = ℕ} 0 1 = cc in absurd (omega arith) }
 
-module _ {s : List ℕ} {first count : ℕ} {queue₀ out₀ queue out : List ℕ} {clean : Bool} {i : ℕ} (w : Walked s first count queue₀ out₀ queue out clean i) (more : i < count) (room : 8 * count ≤ length out₀) where
-  pub walked-more : {queue′ out′ : List ℕ} {clean′ : Bool} → Answered s (first + 116 * i) queue queue′ clean out (8 * i) out′ clean′ → Walked s first count queue₀ out₀ queue′ out′ clean′ (i + 1)
+module _ {edition : ℕ} {s : List ℕ} {first count : ℕ} {queue₀ out₀ queue out : List ℕ} {clean : Bool} {i : ℕ} (w : Walked edition s first count queue₀ out₀ queue out clean i) (more : i < count) (room : 8 * count ≤ length out₀) where
+  pub walked-more : {at : ℕ} {queue′ out′ : List ℕ} {clean′ : Bool} → at ≡ first + recordSize edition * i → Answered edition s at queue queue′ clean out (8 * i) out′ clean′
+      → Walked edition s first count queue₀ out₀ queue′ out′ clean′ (i + 1)
   unfolding tells
-  walked-more {queue′} {out′} {clean′} a =
-      let n : length (tellsFrom s (length queue₀) i first) ≡ 8 * i = length-tells s (length queue₀) i first in
-      let k : out′ ≡ put out (8 * i) (tells (recordAt s (first + 116 * i)) (length queue₀)) = a .told ∙ ap (λ (m : ℕ). put out (8 * i) (tells (recordAt s (first + 116 * i)) m)) (w .words) in
+  walked-more {at} {queue′} {out′} {clean′} p b =
+      let a = subst (λ (k : ℕ). Answered edition s k queue queue′ clean out (8 * i) out′ clean′) p b in
+      let n : length (tellsFrom edition s (length queue₀) i first) ≡ 8 * i = length-tells edition s (length queue₀) i first in
+      let k : out′ ≡ put out (8 * i) (tells (recordAt edition s (first + recordSize edition * i)) (length queue₀)) = a .told ∙ ap (λ (m : ℕ). put out (8 * i) (tells (recordAt edition s (first + recordSize edition * i)) m)) (w .words) in
       record {
         few = omega arith;
         told =
-            one-more out₀ out out′ 0 (8 * i) (tellsFrom s (length queue₀) i first) (tells (recordAt s (first + 116 * i)) (length queue₀)) (w .told) k (omega arith) (omega arith)
-            ∙ ap (λ (l : List ℕ). put out₀ 0 l) (sym (tells-more s (length queue₀) i first) ∙ ap (λ (m : ℕ). tellsFrom s (length queue₀) m first) (sym (add-one i)));
+            one-more out₀ out out′ 0 (8 * i) (tellsFrom edition s (length queue₀) i first) (tells (recordAt edition s (first + recordSize edition * i)) (length queue₀)) (w .told) k (omega arith) (omega arith)
+            ∙ ap (λ (l : List ℕ). put out₀ 0 l) (sym (tells-more edition s (length queue₀) i first) ∙ ap (λ (m : ℕ). tellsFrom edition s (length queue₀) m first) (sym (add-one i)));
         left =
             a .left
-            ∙ ap (λ (l : List ℕ). queueAfter (search (recordAt s (first + 116 * i)) (length l)) l) (w .left)
-            ∙ sym (queue-more s i first queue₀)
-            ∙ ap (λ (m : ℕ). queueFrom s m first queue₀) (sym (add-one i));
-        words = ap length (a .left) ∙ length-after (search (recordAt s (first + 116 * i)) (length queue)) queue ∙ w .words;
-        numbers = ap length k ∙ length-put out (8 * i) (tells (recordAt s (first + 116 * i)) (length queue₀)) (omega (arith, w .numbers)) ∙ w .numbers;
+            ∙ ap (λ (l : List ℕ). queueAfter (search (recordAt edition s (first + recordSize edition * i)) (length l)) l) (w .left)
+            ∙ sym (queue-more edition s i first queue₀)
+            ∙ ap (λ (m : ℕ). queueFrom edition s m first queue₀) (sym (add-one i));
+        words = ap length (a .left) ∙ length-after (search (recordAt edition s (first + recordSize edition * i)) (length queue)) queue ∙ w .words;
+        numbers = ap length k ∙ length-put out (8 * i) (tells (recordAt edition s (first + recordSize edition * i)) (length queue₀)) (omega (arith, w .numbers)) ∙ w .numbers;
         zero = a .zero;
       }
 
 -- at the end
-module _ {s : List ℕ} {first count : ℕ} {queue₀ out₀ queue out : List ℕ} {clean : Bool} {i : ℕ} (w : Walked s first count queue₀ out₀ queue out clean i) where
-  pub walked-all : i ≡ count → (out ≡ put out₀ 0 (tellsFrom s (length queue₀) count first)) × (queue ≡ queueFrom s count first queue₀)
-  walked-all e = (w .told ∙ ap (λ (m : ℕ). put out₀ 0 (tellsFrom s (length queue₀) m first)) e, w .left ∙ ap (λ (m : ℕ). queueFrom s m first queue₀) e)
+module _ {edition : ℕ} {s : List ℕ} {first count : ℕ} {queue₀ out₀ queue out : List ℕ} {clean : Bool} {i : ℕ} (w : Walked edition s first count queue₀ out₀ queue out clean i) where
+  pub walked-all : i ≡ count → (out ≡ put out₀ 0 (tellsFrom edition s (length queue₀) count first)) × (queue ≡ queueFrom edition s count first queue₀)
+  walked-all e = (w .told ∙ ap (λ (m : ℕ). put out₀ 0 (tellsFrom edition s (length queue₀) m first)) e, w .left ∙ ap (λ (m : ℕ). queueFrom edition s m first queue₀) e)
 
 -- ---- one record: what was read, answered and written
-module _ {s : List ℕ} {at : ℕ} {queue queue′ out out′ : List ℕ} {to : ℕ} {clean b : Bool} {r : Record} {a : Answer} (e : r ≡ recordAt s at) (says : a ≡ search r (length queue)) where
+module _ {edition : ℕ} {s : List ℕ} {at : ℕ} {queue queue′ out out′ : List ℕ} {to : ℕ} {clean b : Bool} {r : Record} {a : Answer} (e : r ≡ recordAt edition s at) (says : a ≡ search r (length queue)) where
   pub answered : queue′ ≡ queueAfter (search r (length queue)) queue → out′ ≡ put out to (eight (r .id) (told a)) → b ≡ isAnswered a → Clean clean queue
-      → Answered s at queue queue′ clean out to out′ (clean || b)
+      → Answered edition s at queue queue′ clean out to out′ (clean || b)
   unfolding tells
   answered left wrote is clear =
-      let found : search r (length queue) ≡ search (recordAt s at) (length queue) = ap (λ (x : Record). search x (length queue)) e in
+      let found : search r (length queue) ≡ search (recordAt edition s at) (length queue) = ap (λ (x : Record). search x (length queue)) e in
       record {
-        told = wrote ∙ ap (λ (x : Answer). put out to (eight (r .id) (told x))) (says ∙ found) ∙ ap (λ (x : Record). put out to (eight (x .id) (told (search (recordAt s at) (length queue))))) e;
+        told = wrote ∙ ap (λ (x : Answer). put out to (eight (r .id) (told x))) (says ∙ found) ∙ ap (λ (x : Record). put out to (eight (x .id) (told (search (recordAt edition s at) (length queue))))) e;
         left = left ∙ ap (λ (x : Answer). queueAfter x queue) found;
         zero = rw (left, is, says) (clean-after (search r (length queue)) clean queue clear);
       }
 
 -- the record that stands n records behind the first is record n of the file
-pub at-place : {place : ℕ} {queue queue′ out out′ : List ℕ} {to : ℕ} {clean clean′ : Bool} (s : List ℕ) (n : ℕ) → place ≡ trailerPlace s - backPointer s
-    → Answered s (place + 116 * n) queue queue′ clean out to out′ clean′ → Answered s (placeOf s n) queue queue′ clean out to out′ clean′
-at-place {queue = queue} {queue′ = queue′} {out = out} {out′ = out′} {to = to} {clean = clean} {clean′ = clean′} s n e a =
-    subst (λ (k : ℕ). Answered s (k + 116 * n) queue queue′ clean out to out′ clean′) e a
+pub at-place : {edition place at : ℕ} {queue queue′ out out′ : List ℕ} {to : ℕ} {clean clean′ : Bool} (s : List ℕ) (n : ℕ) → edition ≡ editionOf s → place ≡ trailerPlace s - backPointer s
+    → at ≡ place + recordSize edition * n → Answered edition s at queue queue′ clean out to out′ clean′ → Answered (editionOf s) s (placeOf s n) queue queue′ clean out to out′ clean′
+at-place {edition = edition} {place = place} {queue = queue} {queue′ = queue′} {out = out} {out′ = out′} {to = to} {clean = clean} {clean′ = clean′} s n d e p a =
+    subst (λ (k : ℕ). Answered (editionOf s) s (k + recordSize (editionOf s) * n) queue queue′ clean out to out′ clean′) e
+    (subst (λ (k : ℕ). Answered k s (place + recordSize k * n) queue queue′ clean out to out′ clean′) d
+    (subst (λ (k : ℕ). Answered edition s k queue queue′ clean out to out′ clean′) p a))
 
 -- so many records from a place on are all of the file's
-module _ (s : List ℕ) {place n : ℕ} (e : place ≡ trailerPlace s - backPointer s) (k : n ≡ recordCount s) where
-  first-place : place ≡ placeOf s 0
-  first-place = omega (arith, e)
+module _ (s : List ℕ) {edition place n : ℕ} (d : edition ≡ editionOf s) (e : place ≡ trailerPlace s - backPointer s) (k : n ≡ recordCount s) where
+  start : place ≡ placeOf s 0
+  start = e ∙ first-place (isWide (editionOf s)) (trailerPlace s - backPointer s)
 
-  pub tells-place : (words : ℕ) → tellsFrom s words n place ≡ tellsFrom s words (recordCount s) (placeOf s 0)
-  tells-place words = ap (λ (m : ℕ). tellsFrom s words m place) k ∙ ap (λ (at : ℕ). tellsFrom s words (recordCount s) at) first-place
+  pub tells-place : (words : ℕ) → tellsFrom edition s words n place ≡ tellsFrom (editionOf s) s words (recordCount s) (placeOf s 0)
+  tells-place words = λ i. tellsFrom (d i) s words (k i) (start i)
 
-  pub queue-place : (queue : List ℕ) → queueFrom s n place queue ≡ queueFrom s (recordCount s) (placeOf s 0) queue
-  queue-place queue = ap (λ (m : ℕ). queueFrom s m place queue) k ∙ ap (λ (at : ℕ). queueFrom s (recordCount s) at queue) first-place
+  pub queue-place : (queue : List ℕ) → queueFrom edition s n place queue ≡ queueFrom (editionOf s) s (recordCount s) (placeOf s 0) queue
+  queue-place queue = λ i. queueFrom (d i) s (k i) (start i) queue

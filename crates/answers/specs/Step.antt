@@ -8,7 +8,7 @@ use Rattle.rules.specs.declared.Answer.{Answer}
 use Rattle.rules.specs.declared.Answer.the-variants.{Met, Clear, Spent, Room, Floor, Refused}
 use Rattle.rules.specs.Answers.{queueAfter}
 use Rattle.rules.specs.Search.{search}
-use Rattle.rules.specs.QueryFile.{recordAt, put}
+use Rattle.rules.specs.QueryFile.{recordSize, recordAt, put}
 use Rattle.search.specs.Levels.{Clean}
 use Rattle.answers.specs.Walk.{tells}
 
@@ -20,12 +20,12 @@ isAnswered (Room t u v excess count) = true
 isAnswered (Floor t u v excess count) = true
 isAnswered (Refused number) = false
 
-pub record Answering (s : List ℕ) (at : ℕ) (queue : List ℕ) (clean : Bool) (out : List ℕ) (to : ℕ) : Type 0 where
-  pub there : at + 116 ≤ length s
+pub record Answering (edition : ℕ) (s : List ℕ) (at : ℕ) (queue : List ℕ) (clean : Bool) (out : List ℕ) (to : ℕ) : Type 0 where
+  pub there : at + recordSize edition ≤ length s
   pub room : to + 8 ≤ length out
   pub zero : Clean clean queue
 
-pub record Answered (s : List ℕ) (at : ℕ) (queue queue′ : List ℕ) (clean : Bool) (out : List ℕ) (to : ℕ) (out′ : List ℕ) (clean′ : Bool) : Type 0 where
-  pub told : out′ ≡ put out to (tells (recordAt s at) (length queue))
-  pub left : queue′ ≡ queueAfter (search (recordAt s at) (length queue)) queue
+pub record Answered (edition : ℕ) (s : List ℕ) (at : ℕ) (queue queue′ : List ℕ) (clean : Bool) (out : List ℕ) (to : ℕ) (out′ : List ℕ) (clean′ : Bool) : Type 0 where
+  pub told : out′ ≡ put out to (tells (recordAt edition s at) (length queue))
+  pub left : queue′ ≡ queueAfter (search (recordAt edition s at) (length queue)) queue
   pub zero : Clean clean′ queue′

@@ -9,22 +9,22 @@ use Rattle.rules.specs.declared.Record.{Record}
 use Rattle.rules.specs.Answers.{told, queueAfter}
 use Rattle.rules.specs.Refusals.{Case, first}
 use Rattle.rules.specs.Search.{search}
-use Rattle.rules.specs.QueryFile.{recordAt, queryForm, trailerPlace, backPointer, recordCount, placeOf, openCases, putUnless}
+use Rattle.rules.specs.QueryFile.{recordSize, recordAt, editionOf, fileForm, trailerPlace, backPointer, recordCount, placeOf, openCases, putUnless}
 use Rattle.answers.specs.Eight.{eight}
 
 -- what is told of a record that is searched with so many words
 unfoldable pub tells : Record → ℕ → List ℕ
 tells r words = eight (r .id) (told (search r words))
 
--- of n records, the first at a place
-unfoldable pub tellsFrom : List ℕ → ℕ → ℕ → ℕ → List ℕ
-tellsFrom s words zero at = []
-tellsFrom s words (suc n) at = tells (recordAt s at) words ++ tellsFrom s words n (at + 116)
+-- of n records of an edition, the first at a place
+unfoldable pub tellsFrom : ℕ → List ℕ → ℕ → ℕ → ℕ → List ℕ
+tellsFrom edition s words zero at = []
+tellsFrom edition s words (suc n) at = tells (recordAt edition s at) words ++ tellsFrom edition s words n (at + recordSize edition)
 
 -- the queue after them: each leaves it as the search does
-unfoldable pub queueFrom : List ℕ → ℕ → ℕ → List ℕ → List ℕ
-queueFrom s zero at queue = queue
-queueFrom s (suc n) at queue = queueFrom s n (at + 116) (queueAfter (search (recordAt s at) (length queue)) queue)
+unfoldable pub queueFrom : ℕ → List ℕ → ℕ → ℕ → List ℕ → List ℕ
+queueFrom edition s zero at queue = queue
+queueFrom edition s (suc n) at queue = queueFrom edition s n (at + recordSize edition) (queueAfter (search (recordAt edition s at) (length queue)) queue)
 
 -- 14: fewer numbers are lent than are to be told
 abbrev pub short : List ℕ → ℕ → Case
@@ -45,28 +45,28 @@ pub record Does (refusal : ℕ) (numbers after queue queue′ out out′ : List 
 
 -- 8 to 13, then 14
 unfoldable pub oneRefusal : List ℕ → ℕ → List ℕ → ℕ
-oneRefusal s n out = first (openCases queryForm s ++ (record { number = 13; due = not (ltb n (recordCount s)) } ∷ short out 8 ∷ []))
+oneRefusal s n out = first (openCases (fileForm s) s ++ (record { number = 13; due = not (ltb n (recordCount s)) } ∷ short out 8 ∷ []))
 
 abbrev pub One : List ℕ → ℕ → List ℕ → List ℕ → List ℕ → List ℕ → ℕ → Type 0
 One s n queue queue′ out out′ number =
-    let r : Record = recordAt s (placeOf s n) in
+    let r : Record = recordAt (editionOf s) s (placeOf s n) in
     Does (oneRefusal s n out) (tells r (length queue)) (queueAfter (search r (length queue)) queue) queue queue′ out out′ number
 
 -- ---- every record of a file
 
 -- 8 to 12, then 14
 unfoldable pub allRefusal : List ℕ → List ℕ → ℕ
-allRefusal s out = first (openCases queryForm s ++ (short out (8 * recordCount s) ∷ []))
+allRefusal s out = first (openCases (fileForm s) s ++ (short out (8 * recordCount s) ∷ []))
 
 abbrev pub Every : List ℕ → List ℕ → List ℕ → List ℕ → List ℕ → ℕ → Type 0
 Every s queue queue′ out out′ number =
-    Does (allRefusal s out) (tellsFrom s (length queue) (recordCount s) (placeOf s 0)) (queueFrom s (recordCount s) (placeOf s 0) queue) queue queue′ out out′ number
+    Does (allRefusal s out) (tellsFrom (editionOf s) s (length queue) (recordCount s) (placeOf s 0)) (queueFrom (editionOf s) s (recordCount s) (placeOf s 0) queue) queue queue′ out out′ number
 
 -- ---- how many records a file has
 
 -- 8 to 12, then 14
 unfoldable pub countRefusal : List ℕ → List ℕ → ℕ
-countRefusal s out = first (openCases queryForm s ++ (short out 1 ∷ []))
+countRefusal s out = first (openCases (fileForm s) s ++ (short out 1 ∷ []))
 
 pub record Counted (s out out′ : List ℕ) (number : ℕ) : Type 0 where
   pub says : number ≡ countRefusal s out

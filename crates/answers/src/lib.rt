@@ -4,12 +4,13 @@ ghost use mathlib.Core.List.{_∷_, []};
 ghost use Prim.Native.Nat.{_+_, _*_, _≤_};
 ghost use lib.ListN.{length};
 ghost use Rattle.rules.specs.Answers.{told};
-ghost use Rattle.rules.specs.QueryFile.{put};
+ghost use Rattle.rules.specs.QueryFile.{recordSize, put};
 ghost use Rattle.answers.specs.Eight.{eight};
 ghost use Rattle.answers.specs.Step.{isAnswered, Answering, Answered};
 ghost use Rattle.answers.specs.Walk.{tellsFrom, queueFrom, One, Every, Counted};
-use queries::decode;
 use queries::open_file;
+use queries::record::decode;
+use queries::record::place_of;
 use rules::Answer;
 use rules::Opened;
 use rules::Told;
@@ -138,31 +139,40 @@ fn is_answered(answer: Answer) -> bool
 // One record, with a queue that is zero where it is `clean`; whether the queue is clean afterwards.
 fn answer_at(
     file: &[u8],
+    edition: u8,
     at: usize,
     queue: &mut [u64],
     clean: bool,
     out: &mut [u32],
     to: usize,
 ) -> bool
-    requires { ⌜ Answering (now file) at (now queue) clean (now out) to ⌝ }
-    ensures { λ r. ⌜ Answered (now (file .entry)) at (now (queue .entry)) (now (queue .exit)) clean (now (out .entry)) to (now (out .exit)) r ⌝ }
+    requires { ⌜ Answering edition (now file) at (now queue) clean (now out) to ⌝ }
+    ensures { λ r. ⌜ Answered edition (now (file .entry)) at (now (queue .entry)) (now (queue .exit)) clean (now (out .entry)) to (now (out .exit)) r ⌝ }
 {
-    let r = decode(file, at);
+    let r = decode(file, at, edition);
     let answer = search_in(r, queue, clean);
     write_eight(out, to, r.id, answer);
     clean | is_answered(answer)
 }
 
 // Record after record, the queue cleared at the first that is answered.
-pub fn answer_records(file: &[u8], first: usize, count: usize, queue: &mut [u64], out: &mut [u32])
-    requires { ⌜ (first + 116 * count ≤ length (now file)) × (8 * count ≤ length (now out)) ⌝ }
-    ensures { λ _. ⌜ now (out .exit) ≡ put (now (out .entry)) 0 (tellsFrom (now (file .entry)) (length (now (queue .entry))) count first) ⌝ }
-    ensures { λ _. ⌜ now (queue .exit) ≡ queueFrom (now (file .entry)) count first (now (queue .entry)) ⌝ }
+pub fn answer_records(
+    file: &[u8],
+    edition: u8,
+    first: usize,
+    count: usize,
+    queue: &mut [u64],
+    out: &mut [u32],
+)
+    requires { ⌜ (first + recordSize edition * count ≤ length (now file)) × (8 * count ≤ length (now out)) ⌝ }
+    ensures { λ _. ⌜ now (out .exit) ≡ put (now (out .entry)) 0 (tellsFrom edition (now (file .entry)) (length (now (queue .entry))) count first) ⌝ }
+    ensures { λ _. ⌜ now (queue .exit) ≡ queueFrom edition (now (file .entry)) count first (now (queue .entry)) ⌝ }
 {
     let mut clean = false;
     let mut i = 0;
     while i < count {
-        clean = answer_at(file, first + 116 * i, queue, clean, out, 8 * i);
+        let at = place_of(edition, first, i);
+        clean = answer_at(file, edition, at, queue, clean, out, 8 * i);
         i += 1;
     }
 }
@@ -174,14 +184,19 @@ pub fn answer_one(file: &[u8], n: usize, queue: &mut [u64], out: &mut [u32]) -> 
     let o = open_file(file);
     match o {
         Opened::Refused(number) => number,
-        Opened::Records { first, count } => {
+        Opened::Records {
+            edition,
+            first,
+            count,
+        } => {
             if count <= n {
                 return 13;
             }
             if out.len() < 8 {
                 return 14;
             }
-            answer_at(file, first + 116 * n, queue, false, out, 0);
+            let at = place_of(edition, first, n);
+            answer_at(file, edition, at, queue, false, out, 0);
             0
         }
     }
@@ -194,11 +209,15 @@ pub fn answer_all(file: &[u8], queue: &mut [u64], out: &mut [u32]) -> u32
     let o = open_file(file);
     match o {
         Opened::Refused(number) => number,
-        Opened::Records { first, count } => {
+        Opened::Records {
+            edition,
+            first,
+            count,
+        } => {
             if out.len() < 8 * count {
                 return 14;
             }
-            answer_records(file, first, count, queue, out);
+            answer_records(file, edition, first, count, queue, out);
             0
         }
     }
@@ -211,7 +230,11 @@ pub fn count_records(file: &[u8], out: &mut [u32]) -> u32
     let o = open_file(file);
     match o {
         Opened::Refused(number) => number,
-        Opened::Records { first, count } => {
+        Opened::Records {
+            edition,
+            first,
+            count,
+        } => {
             if out.len() < 1 {
                 return 14;
             }

@@ -1,31 +1,31 @@
 -- Whole files.
 --     trailer-opens            bytes with a trailer of a form behind them open by it
---     file-opens               free bytes, a list of records and a trailer open to exactly so many records, from the first on
+--     file-opens               free bytes, a list of records and a trailer of an edition open to it and to exactly so many records, from the first on
 --     written-file             records and a trailer put one behind another are such a file
 --     file-fetch, file-past    record k is the k-th of the list, beside its own refusal; past the last there is none
--- Assumes nothing.
+-- Of either edition. Assumes nothing.
 use Prim.Native.Nat.{ℕ, zero, suc, _+_, _-_, _*_, _≤_, _<_}
 use mathlib.Core.Path.{_≡_, refl, sym, ap, _∙_}
-use mathlib.Core.Bool.{true}
+use mathlib.Core.Bool.{Bool, true, false, cond, _||_}
 use mathlib.Core.List.{List, [], _∷_, _++_, append-assoc, append-nil}
-use native.Mathlib.Nat.{add-zero}
 use native.Mathlib.Omega.{arith}
-use borrow.Author.Tests.{eq-eqb, le-ltb}
+use borrow.Author.Tests.{eq-eqb, eqb-true, le-ltb}
+use lib.Dec.{eqb}
 use lib.ListN.{length, getD, take, drop, length-append, drop-of-length-le}
-use lib.Seq.{drop-at, drop-drop, drop-append-add, drop-append-seam}
+use lib.Seq.{getD-append-add, drop-at, drop-drop, drop-append-add, drop-append-seam}
 use Rattle.rules.specs.declared.Record.{Record}
 use Rattle.rules.specs.declared.Form.{Form}
 use Rattle.rules.specs.declared.Opened.the-variants.{Records}
 use Rattle.rules.specs.Refusals.{first, recordRefusal}
-use Rattle.rules.specs.QueryFile.{word, wordBytes, stands, recordAt, recordBytes, queryForm, editionBytes, trailerBytes, recordsBytes, fileBytes, openRefusal, openUnless, opened, noRecord, fetchUnless, fetched, put}
+use Rattle.rules.specs.QueryFile.{word, wordBytes, stands, isEdition, isWide, sizeBy, recordSize, recordAt, recordBytes, queryForm, editionOf, fileForm, editionBytes, trailerBytes, recordsBytes, fileBytes, openRefusal, openUnless, opened, noRecord, fetchUnless, fetched, put}
 use Rattle.little.specs.Word.{length-word, word-at}
 use Rattle.little.specs.Stands.{stands-there}
-use Rattle.queries.specs.Opening.{opened-records, reach-index, reach-good}
-use Rattle.queries.specs.RoundTrip.{Held, Narrow, length-record, record-drop, front}
+use Rattle.queries.specs.Opening.{Holds, opened-records, reach-index, reach-good}
+use Rattle.queries.specs.RoundTrip.{Held, length-record, record-drop, front}
 
 -- ---- a trailer
 open-good : (form : Form) (s : List ℕ) (t n : ℕ) → t + 16 ≡ length s → stands s t (form .mark) ≡ true → stands s (t + 4) (editionBytes form) ≡ true
-    → word s (t + 8) ≡ form .size * n → word s (t + 12) ≡ n → n ≤ 4096 → form .size * n ≤ t → opened form s ≡ Records (t - form .size * n) n
+    → word s (t + 8) ≡ form .size * n → word s (t + 12) ≡ n → n ≤ 4096 → form .size * n ≤ t → opened form s ≡ Records (form .edition) (t - form .size * n) n
 unfolding opened openUnless openRefusal first
 open-good form s t n long mark edition w8 w12 few room =
     let l : length s - 16 ≡ t = omega arith in
@@ -66,7 +66,7 @@ module _ (form : Form) (n : ℕ) (four-long : length (form .mark) ≡ 4) where
   starts-with = simp append-assoc
 
   pub trailer-opens : (before : List ℕ) → n ≤ 4096 → form .size * n < 4294967296 → form .size * n ≤ length before
-      → opened form (before ++ trailerBytes form n) ≡ Records (length before - form .size * n) n
+      → opened form (before ++ trailerBytes form n) ≡ Records (form .edition) (length before - form .size * n) n
   trailer-opens before few small room =
       let t = length before in
       let tail = trailerBytes form n in
@@ -81,73 +81,115 @@ module _ (form : Form) (n : ℕ) (four-long : length (form .mark) ≡ 4) where
       few room
 
 -- ---- a list of records
-abbrev pub AllHeld : List Record → Type 0
-AllHeld [] = Unit {0}
-AllHeld (r ∷ rs) = (Held r × Narrow r) × AllHeld rs
+abbrev pub AllHeld : ℕ → List Record → Type 0
+AllHeld edition [] = Unit {0}
+AllHeld edition (r ∷ rs) = Held (isWide edition) r × AllHeld edition rs
 
-pub length-records : (rs : List Record) → AllHeld rs → length (recordsBytes rs) ≡ 116 * length rs
+next : (wide : Bool) (n : ℕ) → sizeBy wide + sizeBy wide * n ≡ sizeBy wide * suc n
+next true n = omega arith
+next false n = omega arith
+
+none : (wide : Bool) → 0 ≡ sizeBy wide * 0
+none true = refl
+none false = refl
+
+pub length-records : (edition : ℕ) (rs : List Record) → AllHeld edition rs → length (recordsBytes edition rs) ≡ recordSize edition * length rs
 unfolding recordsBytes
-length-records [] h = refl
-length-records (r ∷ rs) h = simp length-append (omega (arith, length-record r (h .0 .0), length-records rs (h .1)))
+length-records edition [] h = none (isWide edition)
+length-records edition (r ∷ rs) h =
+    length-append (recordBytes edition r) (recordsBytes edition rs)
+    ∙ (λ i. length-record (isWide edition) r (h .0) i + length-records edition rs (h .1) i)
+    ∙ next (isWide edition) (length rs)
 
 -- record k stands behind k records
-pub record-in : (rs : List Record) (k : ℕ) (before rest : List ℕ) → AllHeld rs → k < length rs
-    → recordAt (before ++ recordsBytes rs ++ rest) (length before + 116 * k) ≡ getD rs k noRecord
+pub record-in : (edition : ℕ) (rs : List Record) (k : ℕ) (before rest : List ℕ) → AllHeld edition rs → k < length rs
+    → recordAt edition (before ++ recordsBytes edition rs ++ rest) (length before + recordSize edition * k) ≡ getD rs k noRecord
 unfolding recordsBytes
-record-in [] k before rest h l = absurd (omega arith)
-record-in (r ∷ rs) zero before rest h l =
-    let s = before ++ (recordBytes r ++ recordsBytes rs) ++ rest in
-    let e : s ≡ before ++ (recordBytes r ++ (recordsBytes rs ++ rest)) = simp append-assoc in
-    ap (recordAt s) (add-zero (length before))
-    ∙ sym (record-drop s (length before))
-    ∙ ap (λ (x : List ℕ). recordAt (drop (length before) x) 0) e
-    ∙ ap (λ (x : List ℕ). recordAt x 0) (drop-append-seam before (recordBytes r ++ (recordsBytes rs ++ rest)))
-    ∙ front r (recordsBytes rs ++ rest) (h .0 .0) (h .0 .1)
-record-in (r ∷ rs) (suc k) before rest h l =
-    let e : before ++ (recordBytes r ++ recordsBytes rs) ++ rest ≡ before ++ recordBytes r ++ recordsBytes rs ++ rest = simp append-assoc in
-    let p : length before + 116 * suc k ≡ length (before ++ recordBytes r) + 116 * k = omega (arith, length-append before (recordBytes r), length-record r (h .0 .0)) in
-    ap (λ (x : List ℕ). recordAt x (length before + 116 * suc k)) e
-    ∙ ap (recordAt (before ++ recordBytes r ++ recordsBytes rs ++ rest)) p
-    ∙ record-in rs k (before ++ recordBytes r) rest (h .1) (omega arith)
+record-in edition [] k before rest h l = absurd (omega arith)
+record-in edition (r ∷ rs) zero before rest h l =
+    let bytes = recordsBytes edition rs in
+    let s = before ++ (recordBytes edition r ++ bytes) ++ rest in
+    let e : s ≡ before ++ (recordBytes edition r ++ (bytes ++ rest)) = simp append-assoc in
+    let p : length before + recordSize edition * 0 ≡ length before = omega (arith, none (isWide edition)) in
+    ap (recordAt edition s) p
+    ∙ sym (record-drop (isWide edition) s (length before))
+    ∙ ap (λ (x : List ℕ). recordAt edition (drop (length before) x) 0) e
+    ∙ ap (λ (x : List ℕ). recordAt edition x 0) (drop-append-seam before (recordBytes edition r ++ (bytes ++ rest)))
+    ∙ front (isWide edition) r (bytes ++ rest) (h .0)
+record-in edition (r ∷ rs) (suc k) before rest h l =
+    let one = recordBytes edition r in
+    let bytes = recordsBytes edition rs in
+    let e : before ++ (one ++ bytes) ++ rest ≡ before ++ one ++ bytes ++ rest = simp append-assoc in
+    let p : length before + recordSize edition * suc k ≡ length (before ++ one) + recordSize edition * k =
+    omega (arith, length-append before one, length-record (isWide edition) r (h .0), next (isWide edition) k) in
+    ap (λ (x : List ℕ). recordAt edition x (length before + recordSize edition * suc k)) e
+    ∙ ap (recordAt edition (before ++ one ++ bytes ++ rest)) p
+    ∙ record-in edition rs k (before ++ one) rest (h .1) (omega arith)
 
 -- ---- a file of them
-module _ (free : List ℕ) (rs : List Record) (all : AllHeld rs) (few : length rs ≤ 4096) where
-  pub file-opens : opened queryForm (fileBytes free rs) ≡ Records (length free) (length rs)
-  unfolding fileBytes
+few-bytes : (wide : Bool) (n : ℕ) → n ≤ 4096 → sizeBy wide * n < 4294967296
+few-bytes true n h = omega arith
+few-bytes false n h = omega arith
+
+named : (edition : ℕ) → isEdition edition ≡ true → cond (isWide edition) 2 1 ≡ edition
+named edition e = go (eqb edition 1) (eqb edition 2) refl refl e
+  where
+    go : (one two : Bool) → eqb edition 1 ≡ one → eqb edition 2 ≡ two → (one || two) ≡ true → cond two 2 1 ≡ edition
+    go one true f g h = sym (eqb-true edition 2 g)
+    go true false f g h = sym (eqb-true edition 1 f)
+    go false false f g h = let z : _≡_ {A = ℕ} 0 1 = cc in absurd (omega arith)
+
+module _ (edition : ℕ) (free : List ℕ) (rs : List Record) (is : isEdition edition ≡ true) (all : AllHeld edition rs) (few : length rs ≤ 4096) where
+  before : List ℕ
+  before = free ++ recordsBytes edition rs
+
+  -- its trailer names its edition
+  pub file-edition : editionOf (fileBytes edition free rs) ≡ edition
+  unfolding fileBytes before trailerBytes
+  file-edition =
+      let tail = trailerBytes (queryForm edition) (length rs) in
+      let t : length (before ++ tail) - 16 ≡ length before = omega (arith, length-append before tail, length-trailer (queryForm edition) (length rs) refl) in
+      let there : getD (before ++ tail) (length before + 4) 0 ≡ edition = getD-append-add before tail 4 0 in
+      ap (λ (n : ℕ). cond (isWide (getD (before ++ tail) (n + 4) 0)) 2 1) t ∙ ap (λ (n : ℕ). cond (isWide n) 2 1) there ∙ named edition is
+
+  pub file-opens : opened (fileForm (fileBytes edition free rs)) (fileBytes edition free rs) ≡ Records edition (length free) (length rs)
+  unfolding fileBytes before
   file-opens =
-      let b = free ++ recordsBytes rs in
-      let l : length b ≡ length free + 116 * length rs = omega (arith, length-append free (recordsBytes rs), length-records rs all) in
-      let e : length b - 116 * length rs ≡ length free = omega arith in
-      trailer-opens queryForm (length rs) refl b few (omega arith) (omega arith) ∙ ap (λ (p : ℕ). Records p (length rs)) e
+      let size = recordSize edition * length rs in
+      let l : length before ≡ length free + size = omega (arith, length-append free (recordsBytes edition rs), length-records edition rs all) in
+      let e : length before - size ≡ length free = omega arith in
+      ap (λ (n : ℕ). opened (queryForm n) (fileBytes edition free rs)) file-edition
+      ∙ trailer-opens (queryForm edition) (length rs) refl before few (few-bytes (isWide edition) (length rs) few) (omega arith)
+      ∙ ap (λ (p : ℕ). Records edition p (length rs)) e
 
-  file-record : (k : ℕ) → k < length rs → recordAt (fileBytes free rs) (length free + 116 * k) ≡ getD rs k noRecord
+  file-record : (k : ℕ) → k < length rs → recordAt edition (fileBytes edition free rs) (length free + recordSize edition * k) ≡ getD rs k noRecord
   unfolding fileBytes
-  file-record k h = record-in rs k free (trailerBytes queryForm (length rs)) all h
+  file-record k h = record-in edition rs k free (trailerBytes (queryForm edition) (length rs)) all h
 
-  pub file-fetch : (k : ℕ) → k < length rs → fetched (fileBytes free rs) k ≡ record { refusal = recordRefusal (getD rs k noRecord); query = getD rs k noRecord }
+  opens : Holds (fileForm (fileBytes edition free rs)) (fileBytes edition free rs) edition (length free) (length rs)
+  opens = opened-records (fileForm (fileBytes edition free rs)) (fileBytes edition free rs) edition (length free) (length rs) file-opens
+
+  pub file-fetch : (k : ℕ) → k < length rs → fetched (fileBytes edition free rs) k ≡ record { refusal = recordRefusal (getD rs k noRecord); query = getD rs k noRecord }
   unfolding fetched fetchUnless
   file-fetch k h =
-      let s = fileBytes free rs in
-      let o = opened-records queryForm s (length free) (length rs) file-opens in
-      rw (reach-good s k (o .none) (omega (arith, o .counts)), ← o .starts, file-record k h)
+      let s = fileBytes edition free rs in
+      rw (reach-good s k (opens .none) (omega (arith, opens .counts)), ← opens .starts, file-edition, file-record k h)
 
-  pub file-past : (k : ℕ) → length rs ≤ k → fetched (fileBytes free rs) k ≡ record { refusal = 13; query = noRecord }
+  pub file-past : (k : ℕ) → length rs ≤ k → fetched (fileBytes edition free rs) k ≡ record { refusal = 13; query = noRecord }
   unfolding fetched fetchUnless
-  file-past k h =
-      let s = fileBytes free rs in
-      let o = opened-records queryForm s (length free) (length rs) file-opens in
-      rw (reach-index s k (o .none) (omega (arith, o .counts)))
+  file-past k h = rw (reach-index (fileBytes edition free rs) k (opens .none) (omega (arith, opens .counts)))
 
 -- records and a trailer put one behind another up to a buffer's end are a file of them
-pub written-file : (s : List ℕ) (at : ℕ) (rs : List Record) → AllHeld rs → at + 116 * length rs + 16 ≡ length s
-    → put s at (recordsBytes rs ++ trailerBytes queryForm (length rs)) ≡ fileBytes (take at s) rs
+pub written-file : (edition : ℕ) (s : List ℕ) (at : ℕ) (rs : List Record) → AllHeld edition rs → at + recordSize edition * length rs + 16 ≡ length s
+    → put s at (recordsBytes edition rs ++ trailerBytes (queryForm edition) (length rs)) ≡ fileBytes edition (take at s) rs
 unfolding put fileBytes
-written-file s at rs all e =
-    let bytes = recordsBytes rs ++ trailerBytes queryForm (length rs) in
-    let l : length bytes ≡ 116 * length rs + 16 =
-    length-append (recordsBytes rs) (trailerBytes queryForm (length rs)) ∙ omega (arith, length-records rs all, length-trailer queryForm (length rs) refl) in
+written-file edition s at rs all e =
+    let tail = trailerBytes (queryForm edition) (length rs) in
+    let bytes = recordsBytes edition rs ++ tail in
+    let l : length bytes ≡ recordSize edition * length rs + 16 =
+    length-append (recordsBytes edition rs) tail ∙ omega (arith, length-records edition rs all, length-trailer (queryForm edition) (length rs) refl) in
     let past : length s ≤ at + length bytes = omega arith in
     let end : drop (at + length bytes) s ≡ [] = drop-of-length-le s past in
     ap (λ (x : List ℕ). take at s ++ bytes ++ x) end
     ∙ append-nil (take at s ++ bytes)
-    ∙ sym (append-assoc (take at s) (recordsBytes rs) (trailerBytes queryForm (length rs)))
+    ∙ sym (append-assoc (take at s) (recordsBytes edition rs) tail)

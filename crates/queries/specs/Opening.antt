@@ -1,27 +1,46 @@
 -- Laws of opening a file and of reaching a record in it.
+--     ten-exactly                       the test of 10 is the one that document 02 words
 --     refused-open                      the answer of a refusal
 --     opened-refused, opened-records    what an answer says of the file
+--     records-end, record-fits          the records of an edition end at the trailer, and each stands before it
+--     few-records                       how many records a short file has at most
 --     reach-refused, -index, -good      the refusal of fetching, by the file's own and the index
 -- Assumes nothing.
 use Prim.Native.Nat.{ℕ, zero, suc, _+_, _-_, _*_, _<_, _≤_}
 use mathlib.Core.Path.{_≡_, refl, sym, ap, _∙_}
-use mathlib.Core.Bool.{Bool, true, false, not, _||_}
+use mathlib.Core.Bool.{Bool, true, false, not, cond, _&&_, _||_}
 use mathlib.Core.List.{List, [], _∷_}
 use native.Mathlib.Omega.{arith}
 use borrow.Author.Tests.{not-false, ltb-false, eqb-true, lt-ltb, le-ltb}
 use lib.Dec.{ltb, eqb}
-use lib.ListN.{length, drop}
+use lib.ListN.{length, getD, drop}
 use Rattle.rules.specs.declared.Record.{Record}
 use Rattle.rules.specs.declared.Form.{Form}
 use Rattle.rules.specs.declared.Opened.the-variants.{Records, Refused}
 use Rattle.rules.specs.Refusals.{Case, first}
-use Rattle.rules.specs.QueryFile.{stands, editionBytes, queryForm, trailerPlace, backPointer, recordCount, openCases, openRefusal, openUnless, opened, reachRefusal, noRecord, fetchUnless}
+use Rattle.rules.specs.QueryFile.{stands, isEdition, isWide, sizeBy, recordSize, editionBytes, fileForm, trailerPlace, backPointer, recordCount, openCases, openRefusal, openUnless, opened, reachRefusal, noRecord, fetchUnless}
 use Rattle.refusals.specs.Cases.{orElse, first-then, not-due}
 
-pub refused-open : (k place n : ℕ) → (k ≡ 0 → ⊥) → Refused k ≡ openUnless k place n
+-- a file is not refused 10 exactly when its edition is 1 or 2 and the three bytes behind that are zero
+pub ten-exactly : (s : List ℕ) → let at = trailerPlace s + 4 in stands s at (editionBytes (fileForm s)) ≡ (isEdition (getD s at 0) && stands s (at + 1) (0 ∷ 0 ∷ 0 ∷ []))
+unfolding stands
+ten-exactly s =
+    let at = trailerPlace s + 4 in
+    ap (λ (b : Bool). b && stands s (at + 1) (0 ∷ 0 ∷ 0 ∷ [])) (go (eqb (getD s at 0) 1) (eqb (getD s at 0) 2) refl refl)
+  where
+    b : ℕ
+    b = getD s (trailerPlace s + 4) 0
+
+    go : (one two : Bool) → eqb b 1 ≡ one → eqb b 2 ≡ two → eqb b (cond two 2 1) ≡ (one || two)
+    go true true e f = f
+    go true false e f = e
+    go false true e f = f
+    go false false e f = e
+
+pub refused-open : (k edition place n : ℕ) → (k ≡ 0 → ⊥) → Refused k ≡ openUnless k edition place n
 unfolding openUnless
-refused-open zero place n h = absurd (h refl)
-refused-open (suc k) place n h = refl
+refused-open zero edition place n h = absurd (h refl)
+refused-open (suc k) edition place n h = refl
 
 -- ---- what no refusal says of a file
 both-false : (a b : Bool) → (a || b) ≡ false → (a ≡ false) × (b ≡ false)
@@ -57,53 +76,74 @@ opens form s e =
     }
 
 -- ---- what an answer says of a file
-pub record Holds (form : Form) (s : List ℕ) (place n : ℕ) : Type 0 where
+pub record Holds (form : Form) (s : List ℕ) (edition place n : ℕ) : Type 0 where
   pub none : openRefusal form s ≡ 0
+  pub names : edition ≡ form .edition
   pub starts : place ≡ trailerPlace s - backPointer s
   pub counts : n ≡ recordCount s
   pub few : n ≤ 4096
   pub ends : place + form .size * n + 16 ≡ length s
 
-records : (k p m place n : ℕ) → openUnless k p m ≡ Records place n → (k ≡ 0) × (place ≡ p) × (n ≡ m)
+records : (k d p m edition place n : ℕ) → openUnless k d p m ≡ Records edition place n → (k ≡ 0) × (edition ≡ d) × (place ≡ p) × (n ≡ m)
 unfolding openUnless
-records zero p m place n e = (refl, cc, cc)
-records (suc k) p m place n e = let z : _≡_ {A = ℕ} 0 1 = cc in absurd (omega arith)
+records zero d p m edition place n e = (refl, cc, cc, cc)
+records (suc k) d p m edition place n e = let z : _≡_ {A = ℕ} 0 1 = cc in absurd (omega arith)
 
-pub opened-records : (form : Form) (s : List ℕ) (place n : ℕ) → opened form s ≡ Records place n → Holds form s place n
+pub opened-records : (form : Form) (s : List ℕ) (edition place n : ℕ) → opened form s ≡ Records edition place n → Holds form s edition place n
 unfolding opened
-opened-records form s place n e =
-    let h = records (openRefusal form s) (trailerPlace s - backPointer s) (recordCount s) place n e in
+opened-records form s edition place n e =
+    let h = records (openRefusal form s) (form .edition) (trailerPlace s - backPointer s) (recordCount s) edition place n e in
     let o = opens form s (h .0) in
-    let w : backPointer s ≡ form .size * n = o .whole ∙ ap (λ (k : ℕ). form .size * k) (sym (h .2)) in
-    record { none = h .0; starts = h .1; counts = h .2; few = omega (arith, o .few); ends = omega (arith, o .long, o .room) }
+    let w : backPointer s ≡ form .size * n = o .whole ∙ ap (λ (k : ℕ). form .size * k) (sym (h .3)) in
+    record { none = h .0; names = h .1; starts = h .2; counts = h .3; few = omega (arith, o .few); ends = omega (arith, o .long, o .room) }
 
-refused : (k p m j : ℕ) → openUnless k p m ≡ Refused j → (k ≡ j) × (j ≡ 0 → ⊥)
+-- by the edition: the records end where the trailer begins, and record k stands before it
+pub records-end : {s : List ℕ} {edition place n : ℕ} → Holds (fileForm s) s edition place n → place + recordSize edition * n + 16 ≡ length s
+records-end {s} {edition} {place} {n} h = ap (λ (d : ℕ). place + recordSize d * n + 16) (h .names) ∙ h .ends
+
+pub record-fits : {s : List ℕ} {edition place n : ℕ} → Holds (fileForm s) s edition place n → (k : ℕ) → k < n → place + recordSize edition * k + recordSize edition ≤ length s
+record-fits {s} {edition} {place} {n} h k l =
+    go (isWide edition) (records-end h)
+  where
+    go : (wide : Bool) → place + sizeBy wide * n + 16 ≡ length s → place + sizeBy wide * k + sizeBy wide ≤ length s
+    go true e = omega arith
+    go false e = omega arith
+
+-- 65,536 bytes hold no more than 564 records, of either edition
+pub few-records : {s : List ℕ} {edition place n : ℕ} → Holds (fileForm s) s edition place n → length s ≤ 65536 → n ≤ 564
+few-records {s} {edition} {place} {n} h short = go (isWide edition) (records-end h)
+  where
+    go : (wide : Bool) → place + sizeBy wide * n + 16 ≡ length s → n ≤ 564
+    go true e = omega arith
+    go false e = omega arith
+
+refused : (k d p m j : ℕ) → openUnless k d p m ≡ Refused j → (k ≡ j) × (j ≡ 0 → ⊥)
 unfolding openUnless
-refused zero p m j e = let z : _≡_ {A = ℕ} 0 1 = cc in absurd (omega arith)
-refused (suc k) p m j e = let h : suc k ≡ j = cc in (h, λ q. omega arith)
+refused zero d p m j e = let z : _≡_ {A = ℕ} 0 1 = cc in absurd (omega arith)
+refused (suc k) d p m j e = let h : suc k ≡ j = cc in (h, λ q. omega arith)
 
 pub opened-refused : (form : Form) (s : List ℕ) (k : ℕ) → opened form s ≡ Refused k → (openRefusal form s ≡ k) × (k ≡ 0 → ⊥)
 unfolding opened
-opened-refused form s k e = refused (openRefusal form s) (trailerPlace s - backPointer s) (recordCount s) k e
+opened-refused form s k e = refused (openRefusal form s) (form .edition) (trailerPlace s - backPointer s) (recordCount s) k e
 
 -- ---- reaching record n
 module _ (s : List ℕ) (n : ℕ) where
   by-index : Bool → List Case
   by-index due = record { number = 13; due = due } ∷ []
 
-  reach : reachRefusal s n ≡ orElse (openRefusal queryForm s) (first (by-index (not (ltb n (recordCount s)))))
+  reach : reachRefusal s n ≡ orElse (openRefusal (fileForm s) s) (first (by-index (not (ltb n (recordCount s)))))
   unfolding reachRefusal openRefusal by-index
-  reach = first-then (openCases queryForm s) (by-index (not (ltb n (recordCount s)))) tt
+  reach = first-then (openCases (fileForm s) s) (by-index (not (ltb n (recordCount s)))) tt
 
-  pub reach-refused : (k : ℕ) → openRefusal queryForm s ≡ k → (k ≡ 0 → ⊥) → reachRefusal s n ≡ k
+  pub reach-refused : (k : ℕ) → openRefusal (fileForm s) s ≡ k → (k ≡ 0 → ⊥) → reachRefusal s n ≡ k
   reach-refused zero e h = absurd (h refl)
   reach-refused (suc k) e h = reach ∙ ap (λ (m : ℕ). orElse m (first (by-index (not (ltb n (recordCount s)))))) e
 
-  pub reach-index : openRefusal queryForm s ≡ 0 → recordCount s ≤ n → reachRefusal s n ≡ 13
+  pub reach-index : openRefusal (fileForm s) s ≡ 0 → recordCount s ≤ n → reachRefusal s n ≡ 13
   unfolding first by-index
   reach-index e h = reach ∙ rw (e, le-ltb n (recordCount s) h)
 
-  pub reach-good : openRefusal queryForm s ≡ 0 → n < recordCount s → reachRefusal s n ≡ 0
+  pub reach-good : openRefusal (fileForm s) s ≡ 0 → n < recordCount s → reachRefusal s n ≡ 0
   unfolding first by-index
   reach-good e h = reach ∙ rw (e, lt-ltb n (recordCount s) h)
 

@@ -1,13 +1,13 @@
 -- A record written and read back is that record; the bytes of a record read and written back are those bytes.
---     Held            what every `Record` of a program is: each field fits its type
+--     Held            what every `Record` of a program is, each field fitting its type, that an edition's record can say: a narrow one has one separation
 --     held            so is a record that is accepted, with an id of 32 bits and 24 coordinates; `read-held` one that stands in bytes
 --     read-back       what was put is read as the record; `written-back` of a writer's buffer
 --     write-back      to put the record that stands at a place there again changes nothing
 --     same-record     no two records have the same bytes
--- Assumes nothing.
+-- All of either edition, by whether its record is wide. Assumes nothing.
 use Prim.Native.Nat.{ℕ, zero, suc, _+_, _*_, _≤_, _<_}
 use mathlib.Core.Path.{_≡_, refl, sym, ap, _∙_}
-use mathlib.Core.Bool.{true, and-eq-true-iff}
+use mathlib.Core.Bool.{Bool, true, false, not, _&&_, _||_, and-eq-true-iff}
 use mathlib.Core.List.{List, [], _∷_, _++_, append-assoc}
 use mathlib.Core.Logic.{⊎-elim}
 use native.Mathlib.Nat.{add-assoc, add-zero}
@@ -20,13 +20,13 @@ use lib.Seq.{getD-drop, drop-drop, take-add}
 use mir.Syntax.{w32}
 use mir.Val.{SFits}
 use Rattle.rules.specs.declared.Record.{Record}
-use Rattle.rules.specs.QueryFile.{word, wordBytes, bits, coordinatesAt, coordinateBytes, recordAt, recordBytes, put, putUnless, hasRoom, writeRefusal}
+use Rattle.rules.specs.QueryFile.{word, wordBytes, bits, coordinatesAt, coordinateBytes, isWide, sizeBy, recordSize, recordBy, recordAt, bytesBy, recordBytes, put, putUnless, writeRefusal}
 use Rattle.refusals.specs.Accepted.{Accepted}
 use Rattle.little.specs.Put.{drop-put, put-same}
 use Rattle.little.specs.Word.{Bytes, word-drop, word-back, word-at, word-lt, word-same, digits}
 use Rattle.little.specs.Signed.{signed-bits, signed-fits, bits-signed, bits-below}
 use Rattle.queries.specs.Coordinates.{length-bytes}
-use Rattle.queries.specs.Writing.{write-room}
+use Rattle.queries.specs.Writing.{WriteRoom, write-room}
 
 -- ---- coordinates
 pub coordinates-drop : (n : ℕ) (s : List ℕ) (at k : ℕ) → coordinatesAt (drop at s) k n ≡ coordinatesAt s (at + k) n
@@ -65,7 +65,12 @@ coordinates-same (suc n) s at b h =
     rw (e, take-add 4 (4 * n) (drop at s), drop-drop 4 at s, bits-signed (word s at) (word-lt s b at), word-same s b at (omega arith), coordinates-same n s (at + 4) b (omega arith))
 
 -- ---- records that a program holds
-pub record Held (r : Record) : Type 0 where
+pub record Narrow (r : Record) : Type 0 where
+  pub dy : r .dx ≡ r .dy
+  pub dz : r .dx ≡ r .dz
+  pub spare : 0 ≡ r .spare
+
+pub record Held (wide : Bool) (r : Record) : Type 0 where
   pub kind : r .kind < 256
   pub flags : r .flags < 256
   pub byte2 : r .byte2 < 256
@@ -79,12 +84,7 @@ pub record Held (r : Record) : Type 0 where
   pub spare : r .spare < 4294967296
   pub count : length (r .points) ≡ 24
   pub points : Each (r .points)
-
--- and what an edition 1 record can say of it
-pub record Narrow (r : Record) : Type 0 where
-  pub dy : r .dx ≡ r .dy
-  pub dz : r .dx ≡ r .dz
-  pub spare : 0 ≡ r .spare
+  pub narrow : wide ≡ false → Narrow r
 
 small-fits : (z : ℤ) → natAbs z ≤ 1048576 → SFits w32 z
 small-fits (pos n) h = record { sfits = omega arith }
@@ -94,8 +94,8 @@ each : (zs : List ℤ) → ((i : ℕ) → natAbs (getD zs i (pos 0)) ≤ 1048576
 each [] h = tt
 each (z ∷ zs) h = (small-fits z (h 0), each zs (λ i. h (suc i)))
 
-pub held : (r : Record) → Accepted r → r .id < 4294967296 → length (r .points) ≡ 24 → Held r
-held r a i n =
+pub held : (wide : Bool) (r : Record) → Accepted r → (wide ≡ false → Narrow r) → r .id < 4294967296 → length (r .points) ≡ 24 → Held wide r
+held wide r a w i n =
     record {
       kind = ⊎-elim (λ e. omega arith) (λ e. omega arith) (a .kind);
       flags = omega (arith, a .flags);
@@ -110,27 +110,63 @@ held r a i n =
       spare = omega (arith, a .spare);
       count = n;
       points = each (r .points) (a .coordinate);
+      narrow = w;
     }
 
 -- what a writer does not refuse is such
-pub narrow : (r : Record) → Accepted r → hasRoom r ≡ true → Narrow r
-narrow r a e =
-    let h = and-eq-true-iff (eqb (r .dx) (r .dy)) (eqb (r .dx) (r .dz)) .0 e in
-    record { dy = eqb-true (r .dx) (r .dy) (h .0); dz = eqb-true (r .dx) (r .dz) (h .1); spare = sym (a .spare) }
+pub narrow : {edition : ℕ} {s : List ℕ} {at : ℕ} (r : Record) → WriteRoom edition s at r → isWide edition ≡ false → Narrow r
+narrow {edition} r w e = go (eqb edition 1) (eqb edition 2) e (w .named) (w .separations)
+  where
+    equal : Bool
+    equal = eqb (r .dx) (r .dy) && eqb (r .dx) (r .dz)
+
+    go : (one two : Bool) → two ≡ false → (one || two) ≡ true → (not one || equal) ≡ true → Narrow r
+    go true two f g k =
+        let h = and-eq-true-iff (eqb (r .dx) (r .dy)) (eqb (r .dx) (r .dz)) .0 k in
+        record { dy = eqb-true (r .dx) (r .dy) (h .0); dz = eqb-true (r .dx) (r .dz) (h .1); spare = sym (w .accepted .spare) }
+    go false two f g k = let z : _≡_ {A = Bool} true false = sym g ∙ f in let y : _≡_ {A = ℕ} 0 1 = cc in absurd (omega arith)
 
 -- ---- a record
-pub record-drop : (s : List ℕ) (at : ℕ) → recordAt (drop at s) 0 ≡ recordAt s at
-unfolding recordAt
-record-drop s at = simp (getD-drop, word-drop, coordinates-drop, add-zero)
+pub record-drop : (wide : Bool) (s : List ℕ) (at : ℕ) → recordBy wide (drop at s) 0 ≡ recordBy wide s at
+unfolding recordBy
+record-drop true s at = simp (getD-drop, word-drop, coordinates-drop, add-zero)
+record-drop false s at = simp (getD-drop, word-drop, coordinates-drop, add-zero)
 
-pub length-record : (r : Record) → Held r → length (recordBytes r) ≡ 116
-unfolding recordBytes wordBytes
-length-record r h = omega (arith, length-bytes (r .points), h .count)
+pub length-record : (wide : Bool) (r : Record) → Held wide r → length (bytesBy wide r) ≡ sizeBy wide
+unfolding bytesBy wordBytes
+length-record true r h = omega (arith, length-bytes (r .points), h .count)
+length-record false r h = omega (arith, length-bytes (r .points), h .count)
 
-pub front : (r : Record) (t : List ℕ) → Held r → Narrow r → recordAt (recordBytes r ++ t) 0 ≡ r
-unfolding recordAt recordBytes wordBytes
-front r t h w =
-    let l = recordBytes r ++ t in
+pub front : (wide : Bool) (r : Record) (t : List ℕ) → Held wide r → recordBy wide (bytesBy wide r ++ t) 0 ≡ r
+unfolding recordBy bytesBy wordBytes
+front true r t h =
+    let l = bytesBy true r ++ t in
+    let e1 : word l 4 ≡ r .id = word-at l _ 4 (r .id) refl (h .id) in
+    let e2 : word l 8 ≡ r .dx = word-at l _ 8 (r .dx) refl (h .dx) in
+    let e2y : word l 12 ≡ r .dy = word-at l _ 12 (r .dy) refl (h .dy) in
+    let e2z : word l 16 ≡ r .dz = word-at l _ 16 (r .dz) refl (h .dz) in
+    let e3 : word l 20 ≡ r .tolerance = word-at l _ 20 (r .tolerance) refl (h .tolerance) in
+    let e4 : word l 24 ≡ r .budget = word-at l _ 24 (r .budget) refl (h .budget) in
+    let e6 : word l 28 ≡ r .spare = word-at l _ 28 (r .spare) refl (h .spare) in
+    let e5 : coordinatesAt l 32 24 ≡ r .points =
+    sym (coordinates-drop 24 l 32 0) ∙ ap (λ (n : ℕ). coordinatesAt (coordinateBytes (r .points) ++ t) 0 n) (sym (h .count)) ∙ coordinates-back (r .points) t (h .points) in
+    λ i. record {
+      kind = r .kind;
+      flags = r .flags;
+      byte2 = r .byte2;
+      byte3 = r .byte3;
+      id = e1 i;
+      dx = e2 i;
+      dy = e2y i;
+      dz = e2z i;
+      tolerance = e3 i;
+      budget = e4 i;
+      spare = e6 i;
+      points = e5 i;
+    }
+front false r t h =
+    let w = h .narrow refl in
+    let l = bytesBy false r ++ t in
     let e1 : word l 4 ≡ r .id = word-at l _ 4 (r .id) refl (h .id) in
     let e2 : word l 8 ≡ r .dx = word-at l _ 8 (r .dx) refl (h .dx) in
     let e2y : word l 8 ≡ r .dy = e2 ∙ w .dy in
@@ -155,21 +191,21 @@ front r t h w =
       points = e5 i;
     }
 
-pub read-back : (s : List ℕ) (at : ℕ) (r : Record) → Held r → Narrow r → at + 116 ≤ length s → recordAt (put s at (recordBytes r)) at ≡ r
-read-back s at r h w room =
-    sym (record-drop (put s at (recordBytes r)) at)
-    ∙ ap (λ (l : List ℕ). recordAt l 0) (drop-put s at (recordBytes r) (omega (arith, length-record r h)))
-    ∙ front r (drop (at + length (recordBytes r)) s) h w
+module _ (edition : ℕ) (s : List ℕ) (at : ℕ) (r : Record) (h : Held (isWide edition) r) where
+  pub read-back : at + recordSize edition ≤ length s → recordAt edition (put s at (recordBytes edition r)) at ≡ r
+  read-back room =
+      sym (record-drop (isWide edition) (put s at (recordBytes edition r)) at)
+      ∙ ap (λ (l : List ℕ). recordAt edition l 0) (drop-put s at (recordBytes edition r) (omega (arith, length-record (isWide edition) r h)))
+      ∙ front (isWide edition) r (drop (at + length (recordBytes edition r)) s) h
 
--- the buffer that a writer leaves when it is done
-pub written-back : (s : List ℕ) (at : ℕ) (r : Record) → Held r → writeRefusal s at r ≡ 0 → recordAt (putUnless (writeRefusal s at r) s at (recordBytes r)) at ≡ r
-unfolding putUnless
-written-back s at r h e =
-    let w = write-room s at r e in
-    rw e (read-back s at r h (narrow r (w .0) (w .1)) (w .2))
+  -- the buffer that a writer leaves when it is done
+  pub written-back : writeRefusal edition s at r ≡ 0 → recordAt edition (putUnless (writeRefusal edition s at r) s at (recordBytes edition r)) at ≡ r
+  unfolding putUnless
+  written-back e = rw e (read-back (write-room edition s at r e .room))
 
-pub same-record : (r r′ : Record) → Held r → Held r′ → Narrow r → Narrow r′ → recordBytes r ≡ recordBytes r′ → r ≡ r′
-same-record r r′ h h′ w w′ e = sym (front r [] h w) ∙ ap (λ (l : List ℕ). recordAt (l ++ []) 0) e ∙ front r′ [] h′ w′
+pub same-record : (edition : ℕ) (r r′ : Record) → Held (isWide edition) r → Held (isWide edition) r′ → recordBytes edition r ≡ recordBytes edition r′ → r ≡ r′
+same-record edition r r′ h h′ e =
+    sym (front (isWide edition) r [] h) ∙ ap (λ (l : List ℕ). recordAt edition (l ++ []) 0) e ∙ front (isWide edition) r′ [] h′
 
 -- ---- a record that stands in bytes
 each-read : (n : ℕ) (s : List ℕ) (at : ℕ) → Bytes s → (length (coordinatesAt s at n) ≡ n) × Each (coordinatesAt s at n)
@@ -177,9 +213,27 @@ unfolding coordinatesAt
 each-read zero s at b = (refl, tt)
 each-read (suc n) s at b = let h = each-read n s (at + 4) b in (ap suc (h .0), (signed-fits (word s at) (word-lt s b at), h .1))
 
-pub read-held : (s : List ℕ) (at : ℕ) → Bytes s → Held (recordAt s at)
-unfolding recordAt
-read-held s at b =
+pub read-held : (wide : Bool) (s : List ℕ) (at : ℕ) → Bytes s → Held wide (recordBy wide s at)
+unfolding recordBy
+read-held true s at b =
+    let h = each-read 24 s (at + 32) b in
+    record {
+      kind = b at;
+      flags = b (at + 1);
+      byte2 = b (at + 2);
+      byte3 = b (at + 3);
+      id = word-lt s b (at + 4);
+      dx = word-lt s b (at + 8);
+      dy = word-lt s b (at + 12);
+      dz = word-lt s b (at + 16);
+      tolerance = word-lt s b (at + 20);
+      budget = word-lt s b (at + 24);
+      spare = word-lt s b (at + 28);
+      count = h .0;
+      points = h .1;
+      narrow = λ e. let z : _≡_ {A = ℕ} 0 1 = cc in absurd (omega arith);
+    }
+read-held false s at b =
     let h = each-read 24 s (at + 20) b in
     record {
       kind = b at;
@@ -195,32 +249,76 @@ read-held s at b =
       spare = omega arith;
       count = h .0;
       points = h .1;
+      narrow = λ e. record { dy = refl; dz = refl; spare = refl };
     }
 
 first-word : (s : List ℕ) → Bytes s → 4 ≤ length s → wordBytes (getD s 0 0 + 256 * getD s 1 0 + 65536 * getD s 2 0 + 16777216 * getD s 3 0) ≡ take 4 s
 unfolding word
 first-word s b h = word-same s b 0 h
 
-parts : (s : List ℕ) → take 4 s ++ take 4 (drop 4 s) ++ take 4 (drop 8 s) ++ take 4 (drop 12 s) ++ take 4 (drop 16 s) ++ take 96 (drop 20 s) ≡ take 116 s
-parts s = rw (← take-add 4 4 s, ← take-add 8 4 s, ← take-add 12 4 s, ← take-add 16 4 s, ← take-add 20 96 s)
+four-bytes : (s : List ℕ) → Bytes s → 4 ≤ length s → getD s 0 0 ∷ getD s 1 0 ∷ getD s 2 0 ∷ getD s 3 0 ∷ [] ≡ take 4 s
+four-bytes s b h = sym (digits _ _ _ _ (b 0) (b 1) (b 2) (b 3)) ∙ first-word s b h
 
-same-bytes : (s : List ℕ) → Bytes s → 116 ≤ length s → recordBytes (recordAt s 0) ≡ take 116 s
-unfolding recordAt recordBytes
-same-bytes s b h =
-    let w0 : getD s 0 0 ∷ getD s 1 0 ∷ getD s 2 0 ∷ getD s 3 0 ∷ [] ≡ take 4 s = sym (digits _ _ _ _ (b 0) (b 1) (b 2) (b 3)) ∙ first-word s b (omega arith) in
+parts : (s : List ℕ)
+    → take 4 s ++ take 4 (drop 4 s) ++ (take 4 (drop 8 s) ++ take 4 (drop 12 s) ++ take 4 (drop 16 s)) ++ take 96 (drop 20 s) ≡ take 116 s
+parts s =
+    let e = sym (append-assoc (take 4 s ++ take 4 (drop 4 s)) (take 4 (drop 8 s) ++ take 4 (drop 12 s)) (take 4 (drop 16 s))) in
+    let f = sym (append-assoc (take 4 s ++ take 4 (drop 4 s)) (take 4 (drop 8 s)) (take 4 (drop 12 s))) in
+    rw (e, f, ← take-add 4 4 s, ← take-add 8 4 s, ← take-add 12 4 s, ← take-add 16 4 s, ← take-add 20 96 s)
+
+wide-parts : (s : List ℕ)
+    → take 4 s ++ take 4 (drop 4 s)
+    ++ (take 4 (drop 8 s) ++ take 4 (drop 12 s) ++ take 4 (drop 16 s) ++ take 4 (drop 20 s) ++ take 4 (drop 24 s) ++ take 4 (drop 28 s))
+    ++ take 96 (drop 32 s)
+    ≡ take 128 s
+wide-parts s =
+    rw (
+      ← append-assoc _ _ (take 4 (drop 28 s)),
+      ← append-assoc _ _ (take 4 (drop 24 s)),
+      ← append-assoc _ _ (take 4 (drop 20 s)),
+      ← append-assoc _ _ (take 4 (drop 16 s)),
+      ← append-assoc _ _ (take 4 (drop 12 s)),
+      ← take-add 4 4 s,
+      ← take-add 8 4 s,
+      ← take-add 12 4 s,
+      ← take-add 16 4 s,
+      ← take-add 20 4 s,
+      ← take-add 24 4 s,
+      ← take-add 28 4 s,
+      ← take-add 32 96 s,
+    )
+
+same-bytes : (wide : Bool) (s : List ℕ) → Bytes s → sizeBy wide ≤ length s → bytesBy wide (recordBy wide s 0) ≡ take (sizeBy wide) s
+unfolding recordBy bytesBy
+same-bytes true s b h =
+    let w0 = four-bytes s b (omega arith) in
+    let w1 = word-same s b 4 (omega arith) in
+    let w2 = word-same s b 8 (omega arith) in
+    let w3 = word-same s b 12 (omega arith) in
+    let w4 = word-same s b 16 (omega arith) in
+    let w5 = word-same s b 20 (omega arith) in
+    let w6 = word-same s b 24 (omega arith) in
+    let w7 = word-same s b 28 (omega arith) in
+    let w8 = coordinates-same 24 s 32 b h in
+    (λ i. w0 i ++ w1 i ++ (w2 i ++ w3 i ++ w4 i ++ w5 i ++ w6 i ++ w7 i) ++ w8 i)
+    ∙ wide-parts s
+same-bytes false s b h =
+    let w0 = four-bytes s b (omega arith) in
     let w1 = word-same s b 4 (omega arith) in
     let w2 = word-same s b 8 (omega arith) in
     let w3 = word-same s b 12 (omega arith) in
     let w4 = word-same s b 16 (omega arith) in
     let w5 = coordinates-same 24 s 20 b h in
-    (λ i. w0 i ++ w1 i ++ w2 i ++ w3 i ++ w4 i ++ w5 i) ∙ parts s
+    (λ i. w0 i ++ w1 i ++ (w2 i ++ w3 i ++ w4 i) ++ w5 i) ∙ parts s
 
 bytes-drop : (s : List ℕ) (at : ℕ) → Bytes s → Bytes (drop at s)
 bytes-drop s at b i = rw (getD-drop at s i 0) (b (at + i))
 
-pub record-bytes : (s : List ℕ) (at : ℕ) → Bytes s → at + 116 ≤ length s → recordBytes (recordAt s at) ≡ take 116 (drop at s)
-record-bytes s at b room =
-    ap recordBytes (sym (record-drop s at)) ∙ same-bytes (drop at s) (bytes-drop s at b) (simp length-drop (omega arith))
+module _ (edition : ℕ) (s : List ℕ) (at : ℕ) (b : Bytes s) (room : at + recordSize edition ≤ length s) where
+  pub record-bytes : recordBytes edition (recordAt edition s at) ≡ take (recordSize edition) (drop at s)
+  record-bytes =
+      ap (recordBytes edition) (sym (record-drop (isWide edition) s at))
+      ∙ same-bytes (isWide edition) (drop at s) (bytes-drop s at b) (simp length-drop (omega arith))
 
-pub write-back : (s : List ℕ) (at : ℕ) → Bytes s → at + 116 ≤ length s → put s at (recordBytes (recordAt s at)) ≡ s
-write-back s at b room = ap (put s at) (record-bytes s at b room) ∙ put-same s at 116 room
+  pub write-back : put s at (recordBytes edition (recordAt edition s at)) ≡ s
+  write-back = ap (put s at) record-bytes ∙ put-same s at (recordSize edition) room

@@ -1,9 +1,10 @@
 -- A file that opens is one of free bytes, its records and its trailer: read and written back it is the same bytes.
 --     trailer-same    the last 16 bytes of a file that opens are the trailer of its count
 --     file-same       the bytes before the first record, the records that stand there and a trailer are the file
--- Assumes nothing.
+-- Of either edition. Assumes nothing.
 use Prim.Native.Nat.{ℕ, zero, suc, _+_, _-_, _*_, _≤_}
 use mathlib.Core.Path.{_≡_, refl, sym, ap, _∙_}
+use mathlib.Core.Bool.{Bool, true, false}
 use mathlib.Core.List.{List, [], _∷_, _++_}
 use native.Mathlib.Omega.{arith}
 use lib.ListN.{length, take, drop, take-append-drop, length-drop}
@@ -11,28 +12,43 @@ use lib.Seq.{take-add, drop-drop, take-all}
 use Rattle.rules.specs.declared.Record.{Record}
 use Rattle.rules.specs.declared.Form.{Form}
 use Rattle.rules.specs.declared.Opened.the-variants.{Records}
-use Rattle.rules.specs.QueryFile.{wordBytes, recordAt, queryForm, editionBytes, trailerBytes, recordsBytes, fileBytes, trailerPlace, recordCount, openRefusal, opened}
+use Rattle.rules.specs.QueryFile.{wordBytes, isWide, sizeBy, recordSize, recordAt, queryForm, fileForm, editionBytes, trailerBytes, recordsBytes, fileBytes, trailerPlace, recordCount, openRefusal, opened}
 use Rattle.little.specs.Word.{Bytes, word-same}
 use Rattle.little.specs.Stands.{stands-bytes}
 use Rattle.queries.specs.Opening.{opens, opened-records}
 use Rattle.queries.specs.RoundTrip.{record-bytes}
 
--- so many records from `at` on
-unfoldable pub recordsAt : List ℕ → ℕ → ℕ → List Record
-recordsAt s at zero = []
-recordsAt s at (suc n) = recordAt s at ∷ recordsAt s (at + 116) n
+-- so many records of an edition from `at` on
+unfoldable pub recordsAt : ℕ → List ℕ → ℕ → ℕ → List Record
+recordsAt edition s at zero = []
+recordsAt edition s at (suc n) = recordAt edition s at ∷ recordsAt edition s (at + recordSize edition) n
 
-pub length-recordsAt : (n : ℕ) (s : List ℕ) (at : ℕ) → length (recordsAt s at n) ≡ n
+pub length-recordsAt : (n edition : ℕ) (s : List ℕ) (at : ℕ) → length (recordsAt edition s at n) ≡ n
 unfolding recordsAt
-length-recordsAt zero s at = refl
-length-recordsAt (suc n) s at = ap suc (length-recordsAt n s (at + 116))
+length-recordsAt zero edition s at = refl
+length-recordsAt (suc n) edition s at = ap suc (length-recordsAt n edition s (at + recordSize edition))
 
-records-same : (n : ℕ) (s : List ℕ) (at : ℕ) → Bytes s → at + 116 * n ≤ length s → recordsBytes (recordsAt s at n) ≡ take (116 * n) (drop at s)
+next : (wide : Bool) (n : ℕ) → sizeBy wide * suc n ≡ sizeBy wide + sizeBy wide * n
+next true n = omega arith
+next false n = omega arith
+
+none : (wide : Bool) → sizeBy wide * 0 ≡ 0
+none true = refl
+none false = refl
+
+records-same : (n edition : ℕ) (s : List ℕ) (at : ℕ) → Bytes s → at + recordSize edition * n ≤ length s
+    → recordsBytes edition (recordsAt edition s at n) ≡ take (recordSize edition * n) (drop at s)
 unfolding recordsAt recordsBytes
-records-same zero s at b h = refl
-records-same (suc n) s at b h =
-    let e : 116 * suc n ≡ 116 + 116 * n = omega arith in
-    rw (e, take-add 116 (116 * n) (drop at s), drop-drop 116 at s, record-bytes s at b (omega arith), records-same n s (at + 116) b (omega arith))
+records-same zero edition s at b h = ap (λ (n : ℕ). take n (drop at s)) (sym (none (isWide edition)))
+records-same (suc n) edition s at b h =
+    let size = recordSize edition in
+    let e : size * suc n ≡ size + size * n = next (isWide edition) n in
+    let one = record-bytes edition s at b (omega arith) in
+    let rest = records-same n edition s (at + size) b (omega arith) in
+    (λ i. one i ++ rest i)
+    ∙ ap (λ (l : List ℕ). take size (drop at s) ++ take (size * n) l) (sym (drop-drop size at s))
+    ∙ sym (take-add size (size * n) (drop at s))
+    ∙ ap (λ (k : ℕ). take k (drop at s)) (sym e)
 
 module _ (form : Form) (s : List ℕ) (b : Bytes s) (four-long : length (form .mark) ≡ 4) (e : openRefusal form s ≡ 0) where
   pub trailer-same : trailerBytes form (recordCount s) ≡ drop (trailerPlace s) s
@@ -56,14 +72,20 @@ module _ (form : Form) (s : List ℕ) (b : Bytes s) (four-long : length (form .m
       parts : (l : List ℕ) → take 4 l ++ take 4 (drop 4 l) ++ take 4 (drop 8 l) ++ take 4 (drop 12 l) ≡ take 16 l
       parts l = rw (← take-add 4 4 l, ← take-add 8 4 l, ← take-add 12 4 l)
 
-pub file-same : (s : List ℕ) (place n : ℕ) → Bytes s → opened queryForm s ≡ Records place n → fileBytes (take place s) (recordsAt s place n) ≡ s
+pub file-same : (s : List ℕ) (edition place n : ℕ) → Bytes s → opened (fileForm s) s ≡ Records edition place n
+    → fileBytes edition (take place s) (recordsAt edition s place n) ≡ s
 unfolding fileBytes
-file-same s place n b e =
-    let h = opened-records queryForm s place n e in
-    let t : trailerPlace s ≡ place + 116 * n = omega (arith, h .ends) in
-    let r : recordsBytes (recordsAt s place n) ≡ take (116 * n) (drop place s) = records-same n s place b (omega (arith, h .ends)) in
-    let l : trailerBytes queryForm (length (recordsAt s place n)) ≡ drop (place + 116 * n) s =
-    ap (trailerBytes queryForm) (length-recordsAt n s place ∙ h .counts) ∙ trailer-same queryForm s b refl (h .none) ∙ ap (λ (k : ℕ). drop k s) t in
+file-same s edition place n b e =
+    let h = opened-records (fileForm s) s edition place n e in
+    let size = recordSize edition * n in
+    let whole : place + size + 16 ≡ length s = ap (λ (d : ℕ). place + recordSize d * n + 16) (h .names) ∙ h .ends in
+    let t : trailerPlace s ≡ place + size = omega arith in
+    let r : recordsBytes edition (recordsAt edition s place n) ≡ take size (drop place s) = records-same n edition s place b (omega arith) in
+    let l : trailerBytes (queryForm edition) (length (recordsAt edition s place n)) ≡ drop (place + size) s =
+    ap (trailerBytes (queryForm edition)) (length-recordsAt n edition s place ∙ h .counts)
+    ∙ ap (λ (d : ℕ). trailerBytes (queryForm d) (recordCount s)) (h .names)
+    ∙ trailer-same (fileForm s) s b refl (h .none)
+    ∙ ap (λ (k : ℕ). drop k s) t in
     (λ i. take place s ++ r i ++ l i)
-    ∙ ap (λ (x : List ℕ). x ++ drop (place + 116 * n) s) (sym (take-add place (116 * n) s))
-    ∙ take-append-drop (place + 116 * n) s
+    ∙ ap (λ (x : List ℕ). x ++ drop (place + size) s) (sym (take-add place size s))
+    ∙ take-append-drop (place + size) s

@@ -3,22 +3,23 @@
 --     written-once                 and there is no other
 --     write-is, write-room         the refusal of a record, as the code makes it, and what none says
 --     trailer-room                 what no refusal of a trailer says
+--     trailer-edition              the refusal of a query file's trailer, by its edition
 -- Assumes nothing.
 use Prim.Native.Nat.{ℕ, zero, suc, _+_, _-_, _*_, _<_, _≤_}
 use mathlib.Core.Path.{_≡_, refl, sym, _∙_}
-use mathlib.Core.Bool.{true, cond}
+use mathlib.Core.Bool.{Bool, true, false, not, cond}
 use mathlib.Core.List.{List, [], _∷_}
 use native.Mathlib.Omega.{arith}
 use native.Mathlib.Nat.{mul-le-mul}
-use borrow.Author.Tests.{ltb-false}
+use borrow.Author.Tests.{ltb-false, not-false}
 use lib.Dec.{ltb}
 use lib.ListN.{length}
 use Rattle.rules.specs.declared.Record.{Record}
 use Rattle.rules.specs.declared.Form.{Form}
 use Rattle.rules.specs.declared.Wrote.{Wrote}
 use Rattle.rules.specs.declared.Wrote.the-variants.{Done, Refused}
-use Rattle.rules.specs.Refusals.{first, casesWith}
-use Rattle.rules.specs.QueryFile.{put, space, hasRoom, writeRefusal, trailerRefusal, wroteUnless, putUnless, Written}
+use Rattle.rules.specs.Refusals.{Case, first, casesWith}
+use Rattle.rules.specs.QueryFile.{isEdition, isWide, sizeBy, recordSize, queryForm, put, noEdition, space, hasRoom, writeRefusal, trailerCases, trailerRefusal, queryTrailerRefusal, wroteUnless, putUnless, Written}
 use Rattle.refusals.specs.Cases.{firstOr, first-append, not-due}
 use Rattle.refusals.specs.Accepted.{Accepted, accepted-with}
 
@@ -38,17 +39,31 @@ module _ (n : ℕ) (s : List ℕ) (at : ℕ) (bytes : List ℕ) where
   written-once x y v w p q = (p .leaves ∙ sym (q .leaves), p .says ∙ sym (q .says))
 
 -- ---- a record
-module _ (s : List ℕ) (at : ℕ) (r : Record) where
-  pub write-is : writeRefusal s at r ≡ firstOr (casesWith (hasRoom r) r) (cond (ltb (length s - at) 116) 14 0)
-  unfolding writeRefusal first
-  write-is = first-append (casesWith (hasRoom r) r) (space s at 116 ∷ [])
+pub record WriteRoom (edition : ℕ) (s : List ℕ) (at : ℕ) (r : Record) : Type 0 where
+  pub accepted : Accepted r
+  pub separations : hasRoom edition r ≡ true
+  pub named : isEdition edition ≡ true
+  pub room : at + recordSize edition ≤ length s
 
-  pub write-room : writeRefusal s at r ≡ 0 → Accepted r × (hasRoom r ≡ true) × (at + 116 ≤ length s)
-  unfolding writeRefusal
+module _ (edition : ℕ) (s : List ℕ) (at : ℕ) (r : Record) where
+  behind : List Case
+  behind = noEdition edition ∷ space s at (recordSize edition) ∷ []
+
+  pub write-is : writeRefusal edition s at r ≡ firstOr (casesWith (hasRoom edition r) r) (cond (not (isEdition edition)) 10 (cond (ltb (length s - at) (recordSize edition)) 14 0))
+  unfolding writeRefusal first behind
+  write-is = first-append (casesWith (hasRoom edition r) r) behind
+
+  pub write-room : writeRefusal edition s at r ≡ 0 → WriteRoom edition s at r
+  unfolding writeRefusal behind
   write-room e =
-      let h = accepted-with (hasRoom r) r (space s at 116 ∷ []) e in
-      let l = ltb-false (length s - at) 116 (not-due 13 (ltb (length s - at) 116) [] (h .2) .0) in
-      (h .0, h .1, omega arith)
+      let h = accepted-with (hasRoom edition r) r behind e in
+      let ten = not-due 9 (not (isEdition edition)) (space s at (recordSize edition) ∷ []) (h .2) in
+      let l = ltb-false (length s - at) (recordSize edition) (not-due 13 (ltb (length s - at) (recordSize edition)) [] (ten .1) .0) in
+      record { accepted = h .0; separations = h .1; named = not-false _ (ten .0); room = fits (isWide edition) (length s) l }
+    where
+      fits : (wide : Bool) (n : ℕ) → sizeBy wide ≤ n - at → at + sizeBy wide ≤ n
+      fits true n h = omega arith
+      fits false n h = omega arith
 
 -- ---- a trailer
 pub few-bytes : (size n : ℕ) → size < 256 → n ≤ 4096 → size * n ≤ 1044480
@@ -67,3 +82,12 @@ trailer-room form s at n e =
     let h12 = not-due 11 (ltb at (form .size * n)) h14 (h11 .1) in
     let l = ltb-false (length s - at) 16 (not-due 13 (ltb (length s - at) 16) [] (h12 .1) .0) in
     record { few = ltb-false 4096 n (h11 .0); back = ltb-false at (form .size * n) (h12 .0); room = omega arith }
+
+-- one of a query file: 10 first
+pub trailer-none : (edition : ℕ) (s : List ℕ) (at n : ℕ) → isEdition edition ≡ false → queryTrailerRefusal edition s at n ≡ 10
+unfolding queryTrailerRefusal first
+trailer-none edition s at n e = rw e
+
+pub trailer-edition : (edition : ℕ) (s : List ℕ) (at n : ℕ) → isEdition edition ≡ true → queryTrailerRefusal edition s at n ≡ trailerRefusal (queryForm edition) s at n
+unfolding queryTrailerRefusal trailerRefusal first
+trailer-edition edition s at n e = rw e

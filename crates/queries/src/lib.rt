@@ -1,14 +1,16 @@
-// The query file, read and written.
+// The query file, read and written, in both editions.
 ghost use mathlib.Core.Path.{_≡_};
 ghost use Prim.Native.Nat.{_+_, _-_, _*_, _≤_};
-ghost use lib.ListN.{length};
-ghost use Rattle.rules.specs.QueryFile.{coordinatesAt, coordinateBytes, recordAt, recordBytes, trailerBytes, queryForm, put, opened, fetched, noRecord, hasRoom, writeRefusal, trailerRefusal, Written};
-use little::read_i32;
+ghost use lib.ListN.{length, getD};
+ghost use Rattle.rules.specs.QueryFile.{isEdition, recordBytes, trailerBytes, queryForm, editionOf, fileForm, put, opened, fetched, noRecord, hasRoom, writeRefusal, trailerRefusal, queryTrailerRefusal, Written};
 use little::read_u32;
 use little::stands4;
-use little::write_i32;
 use little::write_u32;
 use little::write4;
+use record::decode;
+use record::encode;
+use record::place_of;
+use record::record_size;
 use refusals::first;
 use refusals::record_refusal;
 use refusals::refusal_with;
@@ -18,65 +20,7 @@ use rules::Opened;
 use rules::Record;
 use rules::Wrote;
 
-// ---- a record
-
-fn read_points(s: &[u8], at: usize) -> [i32; 24]
-    requires { ⌜ at + 96 ≤ length (now s) ⌝ }
-    ensures { λ r. ⌜ r ≡ coordinatesAt (now (s .entry)) at 24 ⌝ }
-{
-    let mut p = [0i32; 24];
-    let mut i = 0;
-    while i < 24 {
-        p[i] = read_i32(s, at + 4 * i);
-        i += 1;
-    }
-    p
-}
-
-fn write_points(s: &mut [u8], at: usize, p: [i32; 24])
-    requires { ⌜ at + 96 ≤ length (now s) ⌝ }
-    ensures { λ _. ⌜ now (s .exit) ≡ put (now (s .entry)) at (coordinateBytes p) ⌝ }
-{
-    let mut i = 0;
-    while i < 24 {
-        write_i32(s, at + 4 * i, p[i]);
-        i += 1;
-    }
-}
-
-pub fn decode(s: &[u8], at: usize) -> Record
-    requires { ⌜ at + 116 ≤ length (now s) ⌝ }
-    ensures { λ r. ⌜ r ≡ recordAt (now (s .entry)) at ⌝ }
-{
-    let points = read_points(s, at + 20);
-    Record {
-        kind: s[at],
-        flags: s[at + 1],
-        byte2: s[at + 2],
-        byte3: s[at + 3],
-        id: read_u32(s, at + 4),
-        dx: read_u32(s, at + 8),
-        dy: read_u32(s, at + 8),
-        dz: read_u32(s, at + 8),
-        tolerance: read_u32(s, at + 12),
-        budget: read_u32(s, at + 16),
-        spare: 0,
-        points,
-    }
-}
-
-fn encode(s: &mut [u8], at: usize, r: Record)
-    requires { ⌜ at + 116 ≤ length (now s) ⌝ }
-    ensures { λ _. ⌜ now (s .exit) ≡ put (now (s .entry)) at (recordBytes r) ⌝ }
-{
-    write4(s, at, r.kind, r.flags, r.byte2, r.byte3);
-    write_u32(s, at + 4, r.id);
-    write_u32(s, at + 8, r.dx);
-    write_u32(s, at + 12, r.tolerance);
-    write_u32(s, at + 16, r.budget);
-    let points = r.points;
-    write_points(s, at + 20, points);
-}
+pub mod record; // record.rt: a record of either edition, read and written at a place
 
 // ---- opening
 
@@ -115,27 +59,52 @@ pub fn open_form(s: &[u8], form: Form) -> Opened
     }
     let count = wide(count);
     Opened::Records {
+        edition: form.edition,
         first: t - back,
         count,
     }
 }
 
-// The form of a query file: `QEND`, edition 1, records of 116 bytes.
-fn query_form() -> Form
-    ensures { λ r. ⌜ r ≡ queryForm ⌝ }
+// The form of a query file of an edition: its mark is `QEND`.
+fn query_form(edition: u8) -> Form
+    ensures { λ r. ⌜ r ≡ queryForm edition ⌝ }
 {
     let mark = [81u8, 69, 78, 68];
+    let size = record_size(edition);
     Form {
         mark,
-        edition: 1,
-        size: 116,
+        edition,
+        size,
     }
 }
 
-pub fn open_file(s: &[u8]) -> Opened
-    ensures { λ r. ⌜ r ≡ opened queryForm (now (s .entry)) ⌝ }
+// How many of `n` bytes stand from `at` on: none past the end.
+fn left_from(n: usize, at: usize) -> usize
+    ensures { λ r. ⌜ r ≡ n - at ⌝ }
 {
-    open_form(s, query_form())
+    if at <= n { n - at } else { 0 }
+}
+
+// The byte at a place, 0 past the end.
+fn byte_at(s: &[u8], at: usize) -> u8
+    ensures { λ r. ⌜ r ≡ getD (now (s .entry)) at 0 ⌝ }
+{
+    if at < s.len() { s[at] } else { 0 }
+}
+
+// The edition that a file is read by: 2 where its trailer says so, else 1.
+fn edition_of(s: &[u8]) -> u8
+    ensures { λ r. ⌜ r ≡ editionOf (now (s .entry)) ⌝ }
+{
+    let t = left_from(s.len(), 16);
+    if byte_at(s, t + 4) == 2 { 2 } else { 1 }
+}
+
+pub fn open_file(s: &[u8]) -> Opened
+    ensures { λ r. ⌜ r ≡ opened (fileForm (now (s .entry))) (now (s .entry)) ⌝ }
+{
+    let edition = edition_of(s);
+    open_form(s, query_form(edition))
 }
 
 // ---- fetching
@@ -173,12 +142,16 @@ pub fn fetch(s: &[u8], n: usize) -> Fetched
                 query,
             }
         }
-        Opened::Records { first, count } => {
+        Opened::Records {
+            edition,
+            first,
+            count,
+        } => {
             if count <= n {
                 let query = no_record();
                 return Fetched { refusal: 13, query };
             }
-            let query = decode(s, first + 116 * n);
+            let query = decode(s, place_of(edition, first, n), edition);
             let refusal = record_refusal(query);
             Fetched { refusal, query }
         }
@@ -187,30 +160,31 @@ pub fn fetch(s: &[u8], n: usize) -> Fetched
 
 // ---- writing
 
-// How many of `n` bytes stand from `at` on: none past the end.
-fn left_from(n: usize, at: usize) -> usize
-    ensures { λ r. ⌜ r ≡ n - at ⌝ }
+fn is_edition(edition: u8) -> bool
+    ensures { λ b. ⌜ b ≡ isEdition edition ⌝ }
 {
-    if at <= n { n - at } else { 0 }
+    (edition == 1) | (edition == 2)
 }
 
-// Whether an edition 1 record has room for the separations: it holds one.
-fn has_room(r: Record) -> bool
-    ensures { λ b. ⌜ b ≡ hasRoom r ⌝ }
+// Whether a record of the edition has room for the separations: edition 1 holds one.
+fn has_room(edition: u8, r: Record) -> bool
+    ensures { λ b. ⌜ b ≡ hasRoom edition r ⌝ }
 {
-    (r.dx == r.dy) & (r.dx == r.dz)
+    !(edition == 1) | (r.dx == r.dy) & (r.dx == r.dz)
 }
 
-// The 116 bytes of a record, from `at` on.
-pub fn write_record(s: &mut [u8], at: usize, r: Record) -> Wrote
-    ensures { λ w. ⌜ Written (writeRefusal (now (s .entry)) at r) (now (s .entry)) at (recordBytes r) (now (s .exit)) w ⌝ }
+// The 116 or 128 bytes of an edition's record, from `at` on.
+pub fn write_record(s: &mut [u8], at: usize, edition: u8, r: Record) -> Wrote
+    ensures { λ w. ⌜ Written (writeRefusal edition (now (s .entry)) at r) (now (s .entry)) at (recordBytes edition r) (now (s .exit)) w ⌝ }
 {
-    let fourteen = first(left_from(s.len(), at) < 116, 14, 0);
-    let number = refusal_with(has_room(r), r, fourteen);
+    let size = record_size(edition) as usize;
+    let fourteen = first(left_from(s.len(), at) < size, 14, 0);
+    let ten = first(!is_edition(edition), 10, fourteen);
+    let number = refusal_with(has_room(edition, r), r, ten);
     if number != 0 {
         return Wrote::Refused(number);
     }
-    encode(s, at, r);
+    encode(s, at, edition, r);
     Wrote::Done
 }
 
@@ -239,8 +213,12 @@ pub fn write_trailer_form(s: &mut [u8], at: usize, form: Form, count: u32) -> Wr
     Wrote::Done
 }
 
-pub fn write_trailer(s: &mut [u8], at: usize, count: u32) -> Wrote
-    ensures { λ w. ⌜ Written (trailerRefusal queryForm (now (s .entry)) at count) (now (s .entry)) at (trailerBytes queryForm count) (now (s .exit)) w ⌝ }
+// The same of a query file of the edition.
+pub fn write_trailer(s: &mut [u8], at: usize, edition: u8, count: u32) -> Wrote
+    ensures { λ w. ⌜ Written (queryTrailerRefusal edition (now (s .entry)) at count) (now (s .entry)) at (trailerBytes (queryForm edition) count) (now (s .exit)) w ⌝ }
 {
-    write_trailer_form(s, at, query_form(), count)
+    if !is_edition(edition) {
+        return Wrote::Refused(10);
+    }
+    write_trailer_form(s, at, query_form(edition), count)
 }

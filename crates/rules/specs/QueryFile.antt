@@ -1,7 +1,7 @@
--- Document 01, "The query file", and rows 8 to 14 of the table with their orders.
+-- Document 01, "The query file", and rows 8 to 14 of the table with their orders; both editions of document 02, R-4.
 use Prim.Native.Nat.{ℕ, zero, suc, _+_, _-_, _*_, _/_, _%_}
 use mathlib.Core.Path.{_≡_}
-use mathlib.Core.Bool.{Bool, true, not, cond, _&&_, _||_}
+use mathlib.Core.Bool.{Bool, true, false, not, cond, _&&_, _||_}
 use mathlib.Core.List.{List, [], _∷_, _++_}
 use lib.IntN.{ℤ, pos, negsuc, _-ℤ_}
 use lib.ListN.{length, getD, take, drop, replicate}
@@ -39,6 +39,23 @@ unfoldable pub stands : List ℕ → ℕ → List ℕ → Bool
 stands s at [] = true
 stands s at (b ∷ bs) = eqb (getD s at 0) b && stands s (at + 1) bs
 
+-- ---- editions
+
+-- "10 now for editions other than 1 and 2" (document 02, R-4)
+abbrev pub isEdition : ℕ → Bool
+isEdition edition = eqb edition 1 || eqb edition 2
+
+-- whether an edition's record is wide, with a separation an axis
+abbrev pub isWide : ℕ → Bool
+isWide edition = eqb edition 2
+
+-- "records of 116 bytes"; "records of 128 bytes" (document 02, R-4)
+abbrev pub sizeBy : Bool → ℕ
+sizeBy wide = cond wide 128 116
+
+abbrev pub recordSize : ℕ → ℕ
+recordSize edition = sizeBy (isWide edition)
+
 -- ---- the record
 
 -- "x, y, z each 32 bits": so many coordinates from `at` on
@@ -50,37 +67,47 @@ unfoldable pub coordinateBytes : List ℤ → List ℕ
 coordinateBytes [] = []
 coordinateBytes (c ∷ cs) = wordBytes (bits c) ++ coordinateBytes cs
 
--- "kind (byte 0), flags (1), zero (2, 3), id (4), separation (8), tolerance (12), budget (16). From 20: four points at the start, four at the end"
-unfoldable pub recordAt : List ℕ → ℕ → Record
-recordAt s at = record {
+-- "kind (byte 0), flags (1), zero (2, 3), id (4), separation (8), tolerance (12), budget (16). From 20: four points at the start, four at the end"; wide:
+-- "bytes 0 to 7 as before, three separations at 8, tolerance at 20, budget at 24, a zero word at 28, points at 32". "An edition 1 record means three equal separations."
+unfoldable pub recordBy : Bool → List ℕ → ℕ → Record
+recordBy wide s at = record {
   kind = getD s at 0;
   flags = getD s (at + 1) 0;
   byte2 = getD s (at + 2) 0;
   byte3 = getD s (at + 3) 0;
   id = word s (at + 4);
   dx = word s (at + 8);
-  dy = word s (at + 8);
-  dz = word s (at + 8);
-  tolerance = word s (at + 12);
-  budget = word s (at + 16);
-  spare = 0;
-  points = coordinatesAt s (at + 20) 24;
+  dy = word s (at + cond wide 12 8);
+  dz = word s (at + cond wide 16 8);
+  tolerance = word s (at + cond wide 20 12);
+  budget = word s (at + cond wide 24 16);
+  spare = cond wide (word s (at + 28)) 0;
+  points = coordinatesAt s (at + cond wide 32 20) 24;
 }
 
-unfoldable pub recordBytes : Record → List ℕ
-recordBytes r =
+abbrev pub recordAt : ℕ → List ℕ → ℕ → Record
+recordAt edition = recordBy (isWide edition)
+
+-- what stands between bytes 0 to 7 and the points
+abbrev pub termBytes : Bool → Record → List ℕ
+termBytes true r = wordBytes (r .dx) ++ wordBytes (r .dy) ++ wordBytes (r .dz) ++ wordBytes (r .tolerance) ++ wordBytes (r .budget) ++ wordBytes (r .spare)
+termBytes false r = wordBytes (r .dx) ++ wordBytes (r .tolerance) ++ wordBytes (r .budget)
+
+unfoldable pub bytesBy : Bool → Record → List ℕ
+bytesBy wide r =
     (r .kind ∷ r .flags ∷ r .byte2 ∷ r .byte3 ∷ [])
     ++ wordBytes (r .id)
-    ++ wordBytes (r .dx)
-    ++ wordBytes (r .tolerance)
-    ++ wordBytes (r .budget)
+    ++ termBytes wide r
     ++ coordinateBytes (r .points)
+
+abbrev pub recordBytes : ℕ → Record → List ℕ
+recordBytes edition = bytesBy (isWide edition)
 
 -- ---- the trailer and the file
 
--- "the bytes `QEND`, edition"; "records of 116 bytes"; document 01 has edition 1 alone
-abbrev pub queryForm : Form
-queryForm = record { mark = 81 ∷ 69 ∷ 78 ∷ 68 ∷ []; edition = 1; size = 116 }
+-- "the bytes `QEND`, edition", and the edition's record size
+abbrev pub queryForm : ℕ → Form
+queryForm edition = record { mark = 81 ∷ 69 ∷ 78 ∷ 68 ∷ []; edition = edition; size = recordSize edition }
 
 -- "edition, three zero bytes"
 abbrev pub editionBytes : Form → List ℕ
@@ -90,13 +117,13 @@ editionBytes form = form .edition ∷ 0 ∷ 0 ∷ 0 ∷ []
 unfoldable pub trailerBytes : Form → ℕ → List ℕ
 trailerBytes form count = form .mark ++ editionBytes form ++ wordBytes (form .size * count) ++ wordBytes count
 
-unfoldable pub recordsBytes : List Record → List ℕ
-recordsBytes [] = []
-recordsBytes (r ∷ rs) = recordBytes r ++ recordsBytes rs
+unfoldable pub recordsBytes : ℕ → List Record → List ℕ
+recordsBytes edition [] = []
+recordsBytes edition (r ∷ rs) = recordBytes edition r ++ recordsBytes edition rs
 
--- "Free leading bytes, then records of 116 bytes, then a trailer of 16 bytes ending the file"
-unfoldable pub fileBytes : List ℕ → List Record → List ℕ
-fileBytes free rs = free ++ recordsBytes rs ++ trailerBytes queryForm (length rs)
+-- "Free leading bytes, then records of 116 bytes, then a trailer of 16 bytes ending the file", of an edition
+unfoldable pub fileBytes : ℕ → List ℕ → List Record → List ℕ
+fileBytes edition free rs = free ++ recordsBytes edition rs ++ trailerBytes (queryForm edition) (length rs)
 
 -- ---- opening
 
@@ -109,6 +136,13 @@ backPointer s = word s (trailerPlace s + 8)
 
 abbrev pub recordCount : List ℕ → ℕ
 recordCount s = word s (trailerPlace s + 12)
+
+-- the edition that a query file is read by: 2 where its trailer says so, else 1 (and 10 is given where it says neither)
+abbrev pub editionOf : List ℕ → ℕ
+editionOf s = cond (isWide (getD s (trailerPlace s + 4) 0)) 2 1
+
+abbrev pub fileForm : List ℕ → Form
+fileForm s = queryForm (editionOf s)
 
 -- "Opening: 8 to 12." 8 SHORT, 9 MARK, 10 EDITION, 11 COUNT, 12 BACK, each "given exactly when"
 abbrev pub openCases : Form → List ℕ → List Case
@@ -124,22 +158,22 @@ unfoldable pub openRefusal : Form → List ℕ → ℕ
 openRefusal form s = first (openCases form s)
 
 -- a refusal's number (0: none), or else where the records stand
-unfoldable pub openUnless : ℕ → ℕ → ℕ → Opened
-openUnless zero place n = Open.Records place n
-openUnless (suc k) place n = Open.Refused (suc k)
+unfoldable pub openUnless : ℕ → ℕ → ℕ → ℕ → Opened
+openUnless zero edition place n = Open.Records edition place n
+openUnless (suc k) edition place n = Open.Refused (suc k)
 
 unfoldable pub opened : Form → List ℕ → Opened
-opened form s = openUnless (openRefusal form s) (trailerPlace s - backPointer s) (recordCount s)
+opened form s = openUnless (openRefusal form s) (form .edition) (trailerPlace s - backPointer s) (recordCount s)
 
 -- ---- fetching record n
 
 -- where it stands in a file that opens
 abbrev pub placeOf : List ℕ → ℕ → ℕ
-placeOf s n = trailerPlace s - backPointer s + 116 * n
+placeOf s n = trailerPlace s - backPointer s + recordSize (editionOf s) * n
 
 -- 8 to 12, then 13 INDEX, "record number not below the count"
 unfoldable pub reachRefusal : List ℕ → ℕ → ℕ
-reachRefusal s n = first (openCases queryForm s ++ (record { number = 13; due = not (ltb n (recordCount s)) } ∷ []))
+reachRefusal s n = first (openCases (fileForm s) s ++ (record { number = 13; due = not (ltb n (recordCount s)) } ∷ []))
 
 -- what stands beside the number where there is no record
 abbrev pub noRecord : Record
@@ -164,7 +198,7 @@ fetchUnless zero r = record { refusal = recordRefusal r; query = r }
 fetchUnless (suc k) r = record { refusal = suc k; query = noRecord }
 
 unfoldable pub fetched : List ℕ → ℕ → Fetched
-fetched s n = fetchUnless (reachRefusal s n) (recordAt s (placeOf s n))
+fetched s n = fetchUnless (reachRefusal s n) (recordAt (editionOf s) s (placeOf s n))
 
 -- ---- writing
 
@@ -172,23 +206,34 @@ fetched s n = fetchUnless (reachRefusal s n) (recordAt s (placeOf s n))
 unfoldable pub put : List ℕ → ℕ → List ℕ → List ℕ
 put s at bytes = take at s ++ bytes ++ drop (at + length bytes) s
 
+-- 10 EDITION for a writer, which is told the edition
+abbrev pub noEdition : ℕ → Case
+noEdition edition = record { number = 10; due = not (isEdition edition) }
+
 -- 14 SPACE: "fewer than 116 (or 16) bytes stand from that place to the buffer's end, a place past the end included"
 abbrev pub space : List ℕ → ℕ → ℕ → Case
 space s at n = record { number = 14; due = ltb (length s - at) n }
 
 -- an edition 1 record has one separation: room for three only where they are equal
-abbrev pub hasRoom : Record → Bool
-hasRoom r = eqb (r .dx) (r .dy) && eqb (r .dx) (r .dz)
+abbrev pub hasRoom : ℕ → Record → Bool
+hasRoom edition r = not (eqb edition 1) || eqb (r .dx) (r .dy) && eqb (r .dx) (r .dz)
 
--- "Writing a record: 1 to 6, then 14."
-unfoldable pub writeRefusal : List ℕ → ℕ → Record → ℕ
-writeRefusal s at r = first (casesWith (hasRoom r) r ++ (space s at 116 ∷ []))
+-- "Writing a record: 1 to 6, then 14.", with 10 between them: the edition's size must be known before 14
+unfoldable pub writeRefusal : ℕ → List ℕ → ℕ → Record → ℕ
+writeRefusal edition s at r = first (casesWith (hasRoom edition r) r ++ (noEdition edition ∷ space s at (recordSize edition) ∷ []))
 
 -- "Writing a trailer behind records: 11, then 12 (fewer bytes before it than 116 times the count), then 14." The bytes before it are the
 -- place itself, also where that lies past the end
+abbrev pub trailerCases : Form → List ℕ → ℕ → ℕ → List Case
+trailerCases form s at n =
+    record { number = 11; due = ltb 4096 n } ∷ record { number = 12; due = ltb at (form .size * n) } ∷ space s at 16 ∷ []
+
 unfoldable pub trailerRefusal : Form → List ℕ → ℕ → ℕ → ℕ
-trailerRefusal form s at n =
-    first (record { number = 11; due = ltb 4096 n } ∷ record { number = 12; due = ltb at (form .size * n) } ∷ space s at 16 ∷ [])
+trailerRefusal form s at n = first (trailerCases form s at n)
+
+-- "10 .. before 11 when writing a trailer" (document 02, R-4)
+unfoldable pub queryTrailerRefusal : ℕ → List ℕ → ℕ → ℕ → ℕ
+queryTrailerRefusal edition s at n = first (noEdition edition ∷ trailerCases (queryForm edition) s at n)
 
 -- a writer's answer by its refusal (0: none)
 unfoldable pub wroteUnless : ℕ → Wrote

@@ -92,9 +92,13 @@ pub struct Form {
     pub size: u8,
 }
 
-// What opening a file answers: where the first record stands and how many there are. A refusal carries its number.
+// What opening a file answers: its edition, where the first record stands and how many there are. A refusal carries its number.
 pub enum Opened {
-    Records { first: usize, count: usize },
+    Records {
+        edition: u8,
+        first: usize,
+        count: usize,
+    },
     Refused(u32),
 }
 

@@ -8,7 +8,7 @@ use borrow.Author.Tests.{le-leb, lt-ltb, le-ltb}
 use lib.Dec.{leb, ltb}
 use lib.ListN.{length, drop, length-append}
 use Rattle.rules.specs.Refusals.{Case, first}
-use Rattle.rules.specs.QueryFile.{queryForm, openCases, openRefusal, recordAt, recordCount, placeOf, put}
+use Rattle.rules.specs.QueryFile.{recordSize, editionOf, fileForm, openCases, openRefusal, recordAt, recordCount, placeOf, put}
 use Rattle.answers.specs.Walk.{tells, tellsFrom}
 use Rattle.text.specs.declared.Row.{Row}
 use Rattle.text.specs.declared.Written.{Written}
@@ -18,21 +18,21 @@ use Rattle.text.specs.Writers.{writtenIf, bufferIf, Printed, roomFor, roomForRe
 use Rattle.sweep.specs.Page.{sizeOf, sweepRefusal, pageUnless, sweepText, Paged}
 
 -- what stands behind the numbers told is not printed
-rows-told : (s : List ℕ) (words n at : ℕ) (more : List ℕ) → rows n (tellsFrom s words n at ++ more) ≡ rows n (tellsFrom s words n at)
+rows-told : (edition : ℕ) (s : List ℕ) (words n at : ℕ) (more : List ℕ) → rows n (tellsFrom edition s words n at ++ more) ≡ rows n (tellsFrom edition s words n at)
 unfolding rows rowOf tellsFrom tells
-rows-told s words zero at more = refl
-rows-told s words (suc n) at more = ap (λ (l : List Row). rowOf (tells (recordAt s at) words) ∷ l) (rows-told s words n (at + 116) more)
+rows-told edition s words zero at more = refl
+rows-told edition s words (suc n) at more = ap (λ (l : List Row). rowOf (tells (recordAt edition s at) words) ∷ l) (rows-told edition s words n (at + recordSize edition) more)
 
-pub rows-put : (s : List ℕ) (words n at : ℕ) (out : List ℕ) → rows n (put out 0 (tellsFrom s words n at)) ≡ rows n (tellsFrom s words n at)
+pub rows-put : (edition : ℕ) (s : List ℕ) (words n at : ℕ) (out : List ℕ) → rows n (put out 0 (tellsFrom edition s words n at)) ≡ rows n (tellsFrom edition s words n at)
 unfolding put
-rows-put s words n at out = rows-told s words n at (drop (0 + length (tellsFrom s words n at)) out)
+rows-put edition s words n at out = rows-told edition s words n at (drop (0 + length (tellsFrom edition s words n at)) out)
 
 -- ---- the input's refusal
 long : (s : List ℕ) → 65536 < length s → sweepRefusal s ≡ 15
 unfolding sweepRefusal first
 long s h = rw (lt-ltb 65536 (length s) h)
 
-short : (s : List ℕ) → length s ≤ 65536 → sweepRefusal s ≡ openRefusal queryForm s
+short : (s : List ℕ) → length s ≤ 65536 → sweepRefusal s ≡ openRefusal (fileForm s) s
 unfolding sweepRefusal openRefusal first
 short s h = rw (le-ltb 65536 (length s) h)
 
@@ -44,18 +44,18 @@ refused-page (suc k) text h = refl
 module _ (s : List ℕ) (words : ℕ) where
   pub long-text : 65536 < length s → refusedText 15 ≡ sweepText s words
   unfolding sweepText
-  long-text h = sym (ap (λ (k : ℕ). pageUnless k (fileText (rows (recordCount s) (tellsFrom s words (recordCount s) (placeOf s 0))))) (long s h) ∙ refused-page 15 _ (λ z. omega arith))
+  long-text h = sym (ap (λ (k : ℕ). pageUnless k (fileText (rows (recordCount s) (tellsFrom (editionOf s) s words (recordCount s) (placeOf s 0))))) (long s h) ∙ refused-page 15 _ (λ z. omega arith))
 
-  pub refused-text : (k : ℕ) → length s ≤ 65536 → openRefusal queryForm s ≡ k → (k ≡ 0 → ⊥) → refusedText k ≡ sweepText s words
+  pub refused-text : (k : ℕ) → length s ≤ 65536 → openRefusal (fileForm s) s ≡ k → (k ≡ 0 → ⊥) → refusedText k ≡ sweepText s words
   unfolding sweepText
-  refused-text k h e n = sym (ap (λ (j : ℕ). pageUnless j (fileText (rows (recordCount s) (tellsFrom s words (recordCount s) (placeOf s 0))))) (short s h ∙ e) ∙ refused-page k _ n)
+  refused-text k h e n = sym (ap (λ (j : ℕ). pageUnless j (fileText (rows (recordCount s) (tellsFrom (editionOf s) s words (recordCount s) (placeOf s 0))))) (short s h ∙ e) ∙ refused-page k _ n)
 
-  pub file-text : (out : List ℕ) → length s ≤ 65536 → openRefusal queryForm s ≡ 0
-      → fileText (rows (recordCount s) (put out 0 (tellsFrom s words (recordCount s) (placeOf s 0)))) ≡ sweepText s words
+  pub file-text : (out : List ℕ) → length s ≤ 65536 → openRefusal (fileForm s) s ≡ 0
+      → fileText (rows (recordCount s) (put out 0 (tellsFrom (editionOf s) s words (recordCount s) (placeOf s 0)))) ≡ sweepText s words
   unfolding sweepText pageUnless
   file-text out h e =
-      ap fileText (rows-put s words (recordCount s) (placeOf s 0) out)
-      ∙ sym (ap (λ (j : ℕ). pageUnless j (fileText (rows (recordCount s) (tellsFrom s words (recordCount s) (placeOf s 0))))) (short s h ∙ e))
+      ap fileText (rows-put (editionOf s) s words (recordCount s) (placeOf s 0) out)
+      ∙ sym (ap (λ (j : ℕ). pageUnless j (fileText (rows (recordCount s) (tellsFrom (editionOf s) s words (recordCount s) (placeOf s 0))))) (short s h ∙ e))
 
 -- ---- what the writers leave
 fits-put : (out text : List ℕ) → length text ≤ length (put out 0 text)

@@ -5,7 +5,7 @@ use mathlib.Core.List.{List, [], _∷_}
 use lib.Dec.{ltb}
 use lib.ListN.{length}
 use Rattle.rules.specs.Refusals.{first}
-use Rattle.rules.specs.QueryFile.{queryForm, openCases, recordCount, placeOf, put}
+use Rattle.rules.specs.QueryFile.{editionOf, fileForm, openCases, recordCount, placeOf, put}
 use Rattle.answers.specs.Walk.{tellsFrom}
 use Rattle.text.specs.declared.Written.{Written}
 use Rattle.text.specs.declared.Written.the-variants.{Text, Nothing}
@@ -13,7 +13,7 @@ use Rattle.text.specs.Text.{rows, fileText, refusedText}
 
 -- "`sweep` gives 15 before anything else": 15 LONG, "input over 65,536 bytes"; then opening's 8 to 12
 unfoldable pub sweepRefusal : List ℕ → ℕ
-sweepRefusal file = first (record { number = 15; due = ltb 65_536 (length file) } ∷ openCases queryForm file)
+sweepRefusal file = first (record { number = 15; due = ltb 65_536 (length file) } ∷ openCases (fileForm file) file)
 
 -- "A refused file prints only `FILE` and the number."
 unfoldable pub pageUnless : ℕ → List ℕ → List ℕ
@@ -23,7 +23,7 @@ pageUnless (suc k) text = refusedText (suc k)
 -- "prints a line a record .. Then one TOTAL line."
 unfoldable pub sweepText : List ℕ → ℕ → List ℕ
 sweepText file words =
-    pageUnless (sweepRefusal file) (fileText (rows (recordCount file) (tellsFrom file words (recordCount file) (placeOf file 0))))
+    pageUnless (sweepRefusal file) (fileText (rows (recordCount file) (tellsFrom (editionOf file) file words (recordCount file) (placeOf file 0))))
 
 abbrev pub sizeOf : Written → ℕ
 sizeOf (Text n) = n

@@ -27,8 +27,12 @@ fn page(file: &[u8], queue: &mut [u64], told: &mut [u32], out: &mut [u8]) -> usi
     let o = queries::open_file(file);
     match o {
         Opened::Refused(number) => size(text::write_refused(number, out)),
-        Opened::Records { first, count } => {
-            answers::answer_records(file, first, count, queue, told);
+        Opened::Records {
+            edition,
+            first,
+            count,
+        } => {
+            answers::answer_records(file, edition, first, count, queue, told);
             size(text::write_answers(told, count as u32, out))
         }
     }

@@ -4,19 +4,19 @@ use Prim.Native.Nat.{ℕ, _+_, _*_}
 use native.Mathlib.Omega.{arith}
 use mathlib.Core.List.{List}
 use lib.ListN.{length}
-use Rattle.rules.specs.QueryFile.{queryForm, openRefusal, put}
-use Rattle.queries.specs.Opening.{Holds, opened-records, opened-refused}
+use Rattle.rules.specs.QueryFile.{fileForm, openRefusal, put}
+use Rattle.queries.specs.Opening.{Holds, records-end, opened-records, opened-refused}
 use Rattle.answers.proofs.Refusing.{all-refused, all-short, all-good, refuses, answers}
 use Rattle.answers.proofs.Walking.{tells-place, queue-place}
 use borrow.Author.Needs.{needs}
 use Rattle.answers.proofs.answer_all.Statement.{statement}
 use Rattle.answers.proofs.answer_all.Tie as tie
 
-refused : (c : tie.After-o) → (openRefusal queryForm (c .before .before .before .before .before .before .args .file .now) ≡ c .o .given .0 .0) × (c .o .given .0 .0 ≡ 0 → ⊥)
-refused c = opened-refused queryForm _ _ (sym (c .before .before .open-file .ensures) ∙ c .o .given .1)
+refused : (c : tie.After-o) → let s = c .before .before .before .before .before .before .args .file .now in (openRefusal (fileForm s) s ≡ c .o .given .0 .0) × (c .o .given .0 .0 ≡ 0 → ⊥)
+refused c = let s = c .before .before .before .before .before .before .args .file .now in opened-refused (fileForm s) s _ (sym (c .before .before .open-file .ensures) ∙ c .o .given .1)
 
-holds : (c : tie.After-o2) → Holds queryForm (c .before .before .before .before .before .before .args .file .now) (c .o2 .given .0 .0) (c .o2 .given .0 .1 .0)
-holds c = opened-records queryForm _ _ _ (sym (c .before .before .open-file .ensures) ∙ c .o2 .given .1)
+holds : (c : tie.After-o2) → let s = c .before .before .before .before .before .before .args .file .now in Holds (fileForm s) s (c .o2 .given .0 .0) (c .o2 .given .0 .1 .0) (c .o2 .given .0 .1 .1 .0)
+holds c = let s = c .before .before .before .before .before .before .args .file .now in opened-records (fileForm s) s _ _ _ (sym (c .before .before .open-file .ensures) ∙ c .o2 .given .1)
 
 open-file-requires : tie.Need-open-file-requires
 open-file-requires c κs = search needs
@@ -38,7 +38,7 @@ returns c =
     refuses 14 _ _ (a .queue .now) (a .out .now) (all-short (a .file .now) (a .out .now) (h .none) (omega (arith, h .counts, c .if1 .taken))) (λ z. omega arith)
 
 answer-records-requires : tie.Need-answer-records-requires
-answer-records-requires c κs = (omega (arith, holds (c .before .before .before .before) .ends), omega arith)
+answer-records-requires c κs = (omega (arith, records-end (holds (c .before .before .before .before))), omega arith)
 
 returns-2 : tie.Need-returns-2
 returns-2 c =
@@ -60,8 +60,8 @@ returns-3 c =
     let h = holds k in
     let w = c .before .before .before .before .answer-records .ensures in
     answers (all-good (a .file .now) (a .out .now) (h .none) (omega (arith, h .counts)))
-    (w .0 ∙ ap (λ (l : List ℕ). put (a .out .now) 0 l) (tells-place (a .file .now) (h .starts) (h .counts) (length (a .queue .now))))
-    (w .1 ∙ queue-place (a .file .now) (h .starts) (h .counts) (a .queue .now))
+    (w .0 ∙ ap (λ (l : List ℕ). put (a .out .now) 0 l) (tells-place (a .file .now) (h .names) (h .starts) (h .counts) (length (a .queue .now))))
+    (w .1 ∙ queue-place (a .file .now) (h .names) (h .starts) (h .counts) (a .queue .now))
 
 pub answer-all-spec : {M : Type 1} → statement M
 answer-all-spec =

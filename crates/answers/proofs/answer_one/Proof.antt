@@ -3,19 +3,19 @@ use mathlib.Core.Path.{_≡_, sym, ap, _∙_}
 use Prim.Native.Nat.{ℕ, _+_, _*_}
 use mathlib.Core.List.{List}
 use native.Mathlib.Omega.{arith}
-use Rattle.rules.specs.QueryFile.{queryForm, openRefusal, placeOf}
-use Rattle.queries.specs.Opening.{Holds, opened-records, opened-refused}
+use Rattle.rules.specs.QueryFile.{fileForm, openRefusal, placeOf}
+use Rattle.queries.specs.Opening.{Holds, record-fits, opened-records, opened-refused}
 use Rattle.answers.proofs.Refusing.{one-refused, one-index, one-short, one-good, refuses, answers}
 use Rattle.answers.proofs.Walking.{at-place}
 use borrow.Author.Needs.{needs}
 use Rattle.answers.proofs.answer_one.Statement.{statement}
 use Rattle.answers.proofs.answer_one.Tie as tie
 
-refused : (c : tie.After-o) → (openRefusal queryForm (c .before .before .before .before .before .before .args .file .now) ≡ c .o .given .0 .0) × (c .o .given .0 .0 ≡ 0 → ⊥)
-refused c = opened-refused queryForm _ _ (sym (c .before .before .open-file .ensures) ∙ c .o .given .1)
+refused : (c : tie.After-o) → let s = c .before .before .before .before .before .before .args .file .now in (openRefusal (fileForm s) s ≡ c .o .given .0 .0) × (c .o .given .0 .0 ≡ 0 → ⊥)
+refused c = let s = c .before .before .before .before .before .before .args .file .now in opened-refused (fileForm s) s _ (sym (c .before .before .open-file .ensures) ∙ c .o .given .1)
 
-holds : (c : tie.After-o2) → Holds queryForm (c .before .before .before .before .before .before .args .file .now) (c .o2 .given .0 .0) (c .o2 .given .0 .1 .0)
-holds c = opened-records queryForm _ _ _ (sym (c .before .before .open-file .ensures) ∙ c .o2 .given .1)
+holds : (c : tie.After-o2) → let s = c .before .before .before .before .before .before .args .file .now in Holds (fileForm s) s (c .o2 .given .0 .0) (c .o2 .given .0 .1 .0) (c .o2 .given .0 .1 .1 .0)
+holds c = let s = c .before .before .before .before .before .before .args .file .now in opened-records (fileForm s) s _ _ _ (sym (c .before .before .open-file .ensures) ∙ c .o2 .given .1)
 
 open-file-requires : tie.Need-open-file-requires
 open-file-requires c κs = search needs
@@ -42,15 +42,16 @@ returns-2 c =
     (one-short (a .file .now) (a .out .now) (h .none) (a .n) (omega (arith, h .counts, c .before .if1 .left)) (omega (arith, c .if2 .taken)))
     (λ z. omega arith)
 
-mul-answer-at : tie.Need-mul-answer-at
-mul-answer-at c = omega (arith, holds (c .before .before .before) .few)
-
-add-answer-at : tie.Need-add-answer-at
-add-answer-at c = omega (arith, holds (c .before .before .before) .few, holds (c .before .before .before) .ends)
+place-of-requires : tie.Need-place-of-requires
+place-of-requires c κs =
+    let k = c .before .before .before in
+    omega (arith, record-fits (holds k) (k .before .before .before .before .before .before .args .n) (c .before .if1 .left))
 
 answer-at-requires : tie.Need-answer-at-requires
 answer-at-requires c κs =
-    record { there = omega (arith, holds (c .before .before .before .before .before) .ends); room = omega arith; zero = λ e. let z : _≡_ {A = ℕ} 0 1 = cc in absurd (omega arith) }
+    let p = c .before .before in
+    let k = p .before .before .before .before in
+    record { there = omega (arith, p .place-of .ensures, record-fits (holds k) (k .before .before .before .before .before .before .args .n) (p .before .before .if1 .left)); room = omega arith; zero = λ e. let z : _≡_ {A = ℕ} 0 1 = cc in absurd (omega arith) }
 
 returns-3 : tie.Need-returns-3
 returns-3 c =
@@ -67,10 +68,11 @@ same-length-2 c = search needs
 
 returns-4 : tie.Need-returns-4
 returns-4 c =
-    let k = c .before .before .before .before .before .before .before .before .before .before in
+    let p = c .before .before .before .before .before .before .before in
+    let k = p .before .before .before .before in
     let a = k .before .before .before .before .before .before .args in
     let h = holds k in
-    let d = at-place (a .file .now) (a .n) (h .starts) (c .before .before .before .before .answer-at .ensures) in
+    let d = at-place (a .file .now) (a .n) (h .names) (h .starts) (p .place-of .ensures) (c .before .before .before .before .answer-at .ensures) in
     answers (one-good (a .file .now) (a .out .now) (h .none) (a .n) (omega (arith, h .counts)) (omega arith)) (d .told) (d .left)
 
 pub answer-one-spec : {M : Type 1} → statement M
@@ -82,8 +84,7 @@ answer-one-spec =
     enum-known-o-2
     returns
     returns-2
-    mul-answer-at
-    add-answer-at
+    place-of-requires
     answer-at-requires
     returns-3
     same-length

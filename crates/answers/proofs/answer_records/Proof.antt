@@ -1,32 +1,41 @@
 -- `answers::answer_records` meets its contract: record after record. Assumes nothing.
 use Prim.Native.Nat.{_-_}
 use native.Mathlib.Omega.{arith}
-use Rattle.answers.proofs.Walking.{Walked, walked-none, walked-more, walked-all}
+use lib.ListN.{length}
+use Rattle.rules.specs.QueryFile.{isWide}
+use Rattle.answers.proofs.Walking.{record-in, Walked, walked-none, walked-more, walked-all}
 use Rattle.answers.proofs.answer_records.Statement.{statement}
 use Rattle.answers.proofs.answer_records.Tie as tie
 
 abbrev Inv-loop : tie.InvT-loop
-Inv-loop file first count queue₀ out₀ clean₀ i₀ queue out clean i = Walked file first count queue₀ out₀ queue out clean i
+Inv-loop file edition first count queue₀ out₀ clean₀ i₀ queue out clean i = Walked edition file first count queue₀ out₀ queue out clean i
 
 abbrev μ-loop : tie.MeasureT-loop
-μ-loop file first count queue₀ out₀ clean₀ i₀ queue out clean i = count - i
+μ-loop file edition first count queue₀ out₀ clean₀ i₀ queue out clean i = count - i
 
 loop-holds : tie.Need-loop-holds Inv-loop μ-loop
-loop-holds c = walked-none _ _ _ _ _
+loop-holds c = walked-none _ _ _ _ _ _
+
+place-of-requires : tie.Need-place-of-requires Inv-loop μ-loop
+place-of-requires c κs =
+    let k = c .before .before .before .before .before in
+    let a = k .args in
+    omega (arith, record-in (isWide (a .edition)) (a .first) (a .count) (c .before .loop .i) (length (a .file .now)) (omega arith) (k .pre .0))
 
 mul-answer-at : tie.Need-mul-answer-at Inv-loop μ-loop
 mul-answer-at c = omega arith
 
-add-answer-at : tie.Need-add-answer-at Inv-loop μ-loop
-add-answer-at c = omega arith
-
-mul-answer-at-2 : tie.Need-mul-answer-at-2 Inv-loop μ-loop
-mul-answer-at-2 c = omega arith
-
 answer-at-requires : tie.Need-answer-at-requires Inv-loop μ-loop
 answer-at-requires c κs =
-    let w = c .before .before .before .loop .inv in
-    record { there = omega arith; room = omega (arith, w .numbers); zero = w .zero }
+    let w = c .before .before .before .before .loop .inv in
+    let p = c .before .before in
+    let k = p .before .before .before .before .before .before in
+    let a = k .args in
+    record {
+      there = omega (arith, p .place-of .ensures, record-in (isWide (a .edition)) (a .first) (a .count) (p .before .before .loop .i) (length (a .file .now)) (omega arith) (k .pre .0));
+      room = omega (arith, w .numbers);
+      zero = w .zero;
+    }
 
 add-i : tie.Need-add-i Inv-loop μ-loop
 add-i c = omega arith
@@ -36,9 +45,10 @@ loop-less c = omega arith
 
 loop-again : tie.Need-loop-again Inv-loop μ-loop
 loop-again c =
-    let l = c .before .before .before .before .before .before .before .before in
-    let k = c .before .before .before .before .before .before .before .before .before .before .before .before in
-    walked-more (l .loop .inv) (omega arith) (k .pre .1) (c .before .before .before .before .answer-at .ensures)
+    let p = c .before .before .before .before .before .before .before in
+    let l = p .before .before in
+    let k = l .before .before .before .before in
+    walked-more (l .loop .inv) (omega arith) (k .pre .1) (p .place-of .ensures) (c .before .before .before .before .answer-at .ensures)
 
 same-length : tie.Need-same-length Inv-loop μ-loop
 same-length c = c .before .loop .inv .words
@@ -56,9 +66,8 @@ answer-records-spec =
     Inv-loop
     μ-loop
     loop-holds
+    place-of-requires
     mul-answer-at
-    add-answer-at
-    mul-answer-at-2
     answer-at-requires
     add-i
     loop-less

@@ -4,18 +4,18 @@ use mathlib.Core.List.{List, [], _∷_}
 use Prim.Native.Nat.{ℕ}
 use native.Mathlib.Omega.{arith}
 use lib.ListN.{length, set}
-use Rattle.rules.specs.QueryFile.{queryForm, openRefusal, put, putUnless}
+use Rattle.rules.specs.QueryFile.{fileForm, openRefusal, put, putUnless}
 use Rattle.queries.specs.Opening.{Holds, opened-records, opened-refused}
 use Rattle.answers.proofs.Refusing.{count-refused, count-short, count-good, refuses-count, counts}
 use borrow.Author.Needs.{needs}
 use Rattle.answers.proofs.count_records.Statement.{statement}
 use Rattle.answers.proofs.count_records.Tie as tie
 
-refused : (c : tie.After-o) → (openRefusal queryForm (c .before .before .before .before .before .args .file .now) ≡ c .o .given .0 .0) × (c .o .given .0 .0 ≡ 0 → ⊥)
-refused c = opened-refused queryForm _ _ (sym (c .before .before .open-file .ensures) ∙ c .o .given .1)
+refused : (c : tie.After-o) → let s = c .before .before .before .before .before .args .file .now in (openRefusal (fileForm s) s ≡ c .o .given .0 .0) × (c .o .given .0 .0 ≡ 0 → ⊥)
+refused c = let s = c .before .before .before .before .before .args .file .now in opened-refused (fileForm s) s _ (sym (c .before .before .open-file .ensures) ∙ c .o .given .1)
 
-holds : (c : tie.After-o2) → Holds queryForm (c .before .before .before .before .before .args .file .now) (c .o2 .given .0 .0) (c .o2 .given .0 .1 .0)
-holds c = opened-records queryForm _ _ _ (sym (c .before .before .open-file .ensures) ∙ c .o2 .given .1)
+holds : (c : tie.After-o2) → let s = c .before .before .before .before .before .args .file .now in Holds (fileForm s) s (c .o2 .given .0 .0) (c .o2 .given .0 .1 .0) (c .o2 .given .0 .1 .1 .0)
+holds c = let s = c .before .before .before .before .before .args .file .now in opened-records (fileForm s) s _ _ _ (sym (c .before .before .open-file .ensures) ∙ c .o2 .given .1)
 
 open-file-requires : tie.Need-open-file-requires
 open-file-requires c κs = search needs

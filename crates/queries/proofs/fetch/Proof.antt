@@ -1,17 +1,20 @@
 -- `queries::fetch` meets its contract: in each arm, what the file opened to. Assumes nothing.
-use mathlib.Core.Path.{_≡_, sym, _∙_}
+use Prim.Native.Nat.{ℕ, _+_, _*_, _≤_, _<_}
+use mathlib.Core.Path.{_≡_, sym, ap, _∙_}
 use native.Mathlib.Omega.{arith}
-use Rattle.rules.specs.QueryFile.{queryForm, openRefusal, fetchUnless, fetched}
-use Rattle.queries.specs.Opening.{Holds, opened-records, opened-refused, reach-refused, reach-index, reach-good, refused-fetch}
+use lib.ListN.{length}
+use Rattle.rules.specs.declared.Record.{Record}
+use Rattle.rules.specs.QueryFile.{isWide, recordSize, recordAt, editionOf, fileForm, openRefusal, fetchUnless, fetched}
+use Rattle.queries.specs.Opening.{Holds, opened-records, opened-refused, record-fits, reach-refused, reach-index, reach-good, refused-fetch}
 use borrow.Author.Needs.{needs}
 use Rattle.queries.proofs.fetch.Statement.{statement}
 use Rattle.queries.proofs.fetch.Tie as tie
 
-refused : (c : tie.After-o) → (openRefusal queryForm (c .before .before .before .before .args .s .now) ≡ c .o .given .0 .0) × (c .o .given .0 .0 ≡ 0 → ⊥)
-refused c = opened-refused queryForm _ _ (sym (c .before .before .open-file .ensures) ∙ c .o .given .1)
+refused : (c : tie.After-o) → let s = c .before .before .before .before .args .s .now in (openRefusal (fileForm s) s ≡ c .o .given .0 .0) × (c .o .given .0 .0 ≡ 0 → ⊥)
+refused c = let s = c .before .before .before .before .args .s .now in opened-refused (fileForm s) s _ (sym (c .before .before .open-file .ensures) ∙ c .o .given .1)
 
-holds : (c : tie.After-o2) → Holds queryForm (c .before .before .before .before .args .s .now) (c .o2 .given .0 .0) (c .o2 .given .0 .1 .0)
-holds c = opened-records queryForm _ _ _ (sym (c .before .before .open-file .ensures) ∙ c .o2 .given .1)
+holds : (c : tie.After-o2) → let s = c .before .before .before .before .args .s .now in Holds (fileForm s) s (c .o2 .given .0 .0) (c .o2 .given .0 .1 .0) (c .o2 .given .0 .1 .1 .0)
+holds c = let s = c .before .before .before .before .args .s .now in opened-records (fileForm s) s _ _ _ (sym (c .before .before .open-file .ensures) ∙ c .o2 .given .1)
 
 open-file-requires : tie.Need-open-file-requires
 open-file-requires c κs = search needs
@@ -36,14 +39,17 @@ returns c =
     let h = holds k in
     simp (reach-index (a .s .now) (a .n) (h .none) (omega (arith, h .counts, c .before .if1 .taken)), c .no-record2 .ensures)
 
-mul-decode : tie.Need-mul-decode
-mul-decode c = omega (arith, holds (c .before .before) .few)
-
-add-decode : tie.Need-add-decode
-add-decode c = omega (arith, holds (c .before .before) .few, holds (c .before .before) .ends)
+place-of-requires : tie.Need-place-of-requires
+place-of-requires c κs =
+    let k = c .before .before in
+    let a = k .before .before .before .before .args in
+    omega (arith, record-fits (holds k) (a .n) (c .if1 .left))
 
 decode-requires : tie.Need-decode-requires
-decode-requires c κs = omega (arith, holds (c .before .before) .ends)
+decode-requires c κs =
+    let k = c .before .before .before in
+    let a = k .before .before .before .before .args in
+    omega (arith, c .place-of .ensures, record-fits (holds k) (a .n) (c .before .if1 .left))
 
 record-refusal-requires : tie.Need-record-refusal-requires
 record-refusal-requires c κs = search needs
@@ -59,10 +65,18 @@ returns-2 c =
 returns-3 : tie.Need-returns-3
 unfolding fetched fetchUnless
 returns-3 c =
-    let k = c .before .before .before .before in
+    let k = c .before .before .before .before .before in
     let a = k .before .before .before .before .args in
     let h = holds k in
-    simp (reach-good (a .s .now) (a .n) (h .none) (omega (arith, h .counts, c .before .before .if1 .left)), c .record-refusal .ensures, c .before .decode .ensures, h .starts)
+    let s = a .s .now in
+    simp (
+      reach-good s (a .n) (h .none) (omega (arith, h .counts, c .before .before .before .if1 .left)),
+      c .record-refusal .ensures,
+      c .before .decode .ensures,
+      c .before .before .place-of .ensures,
+      h .starts,
+      h .names,
+    )
 
 pub fetch-spec : {M : Type 1} → statement M
 fetch-spec =
@@ -74,8 +88,7 @@ fetch-spec =
     enum-known-o-2
     no-record-requires-2
     returns
-    mul-decode
-    add-decode
+    place-of-requires
     decode-requires
     record-refusal-requires
     returns-2

@@ -1,10 +1,14 @@
--- `queries::open_file` meets its contract. Assumes nothing.
+-- `queries::open_file` meets its contract: by the edition that its trailer names. Assumes nothing.
+use Prim.Native.Nat.{ℕ}
 use mathlib.Core.Path.{ap, _∙_}
 use Rattle.rules.specs.declared.Form.{Form}
-use Rattle.rules.specs.QueryFile.{opened}
+use Rattle.rules.specs.QueryFile.{queryForm, opened}
 use borrow.Author.Needs.{needs}
 use Rattle.queries.proofs.open_file.Statement.{statement}
 use Rattle.queries.proofs.open_file.Tie as tie
+
+edition-of-requires : tie.Need-edition-of-requires
+edition-of-requires c κs = search needs
 
 query-form-requires : tie.Need-query-form-requires
 query-form-requires c κs = search needs
@@ -13,7 +17,10 @@ open-form-requires : tie.Need-open-form-requires
 open-form-requires c κs = search needs
 
 returns : tie.Need-returns
-returns c = c .open-form .ensures ∙ ap (λ (f : Form). opened f (c .before .before .before .args .s .now)) (c .before .query-form .ensures)
+returns c =
+    let s = c .before .before .before .before .args .s .now in
+    c .open-form .ensures ∙ ap (λ (f : Form). opened f s) (c .before .query-form .ensures ∙ ap queryForm (c .before .before .edition-of .ensures))
 
 pub open-file-spec : {M : Type 1} → statement M
-open-file-spec = tie.close (tie.spec query-form-requires open-form-requires returns)
+open-file-spec =
+    tie.close (tie.spec edition-of-requires query-form-requires open-form-requires returns)

@@ -79,8 +79,8 @@ unfolding opened
 returns-2 c =
     let a = c .before .before .before .before .before .before .before .before .before .before .before .before .before .before .args in
     let e = number (c .before) in
-    refused-open (c .before .first4 .result) (trailerPlace (a .s .now) - backPointer (a .s .now)) (recordCount (a .s .now)) (c .if2 .taken)
-    ∙ ap (λ k. openUnless k (trailerPlace (a .s .now) - backPointer (a .s .now)) (recordCount (a .s .now))) e
+    refused-open (c .before .first4 .result) (a .form .edition) (trailerPlace (a .s .now) - backPointer (a .s .now)) (recordCount (a .s .now)) (c .if2 .taken)
+    ∙ ap (λ k. openUnless k (a .form .edition) (trailerPlace (a .s .now) - backPointer (a .s .now)) (recordCount (a .s .now))) e
 
 wide-requires-2 : tie.Need-wide-requires-2
 wide-requires-2 c κs = search needs

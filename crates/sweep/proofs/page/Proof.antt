@@ -4,8 +4,8 @@ use Prim.Native.Nat.{ℕ, _+_, _*_}
 use mathlib.Core.List.{List}
 use native.Mathlib.Omega.{arith}
 use lib.ListN.{length}
-use Rattle.rules.specs.QueryFile.{queryForm, openRefusal, recordCount, placeOf, put}
-use Rattle.queries.specs.Opening.{Holds, opened-records, opened-refused}
+use Rattle.rules.specs.QueryFile.{fileForm, openRefusal, recordCount, placeOf, put}
+use Rattle.queries.specs.Opening.{Holds, records-end, few-records, opened-records, opened-refused}
 use Rattle.text.specs.Text.{rows, fileText}
 use Rattle.answers.proofs.Walking.{tells-place}
 use Rattle.sweep.proofs.Paging.{paged, long-text, refused-text, file-text, refusal-room, answers-room}
@@ -13,11 +13,11 @@ use borrow.Author.Needs.{needs}
 use Rattle.sweep.proofs.page.Statement.{statement}
 use Rattle.sweep.proofs.page.Tie as tie
 
-refused : (c : tie.After-o) → (openRefusal queryForm (c .before .before .before .before .before .before .before .before .args .file .now) ≡ c .o .given .0 .0) × (c .o .given .0 .0 ≡ 0 → ⊥)
-refused c = opened-refused queryForm _ _ (sym (c .before .before .open-file .ensures) ∙ c .o .given .1)
+refused : (c : tie.After-o) → let s = c .before .before .before .before .before .before .before .before .args .file .now in (openRefusal (fileForm s) s ≡ c .o .given .0 .0) × (c .o .given .0 .0 ≡ 0 → ⊥)
+refused c = let s = c .before .before .before .before .before .before .before .before .args .file .now in opened-refused (fileForm s) s _ (sym (c .before .before .open-file .ensures) ∙ c .o .given .1)
 
-holds : (c : tie.After-o2) → Holds queryForm (c .before .before .before .before .before .before .before .before .args .file .now) (c .o2 .given .0 .0) (c .o2 .given .0 .1 .0)
-holds c = opened-records queryForm _ _ _ (sym (c .before .before .open-file .ensures) ∙ c .o2 .given .1)
+holds : (c : tie.After-o2) → let s = c .before .before .before .before .before .before .before .before .args .file .now in Holds (fileForm s) s (c .o2 .given .0 .0) (c .o2 .given .0 .1 .0) (c .o2 .given .0 .1 .1 .0)
+holds c = let s = c .before .before .before .before .before .before .before .before .args .file .now in opened-records (fileForm s) s _ _ _ (sym (c .before .before .open-file .ensures) ∙ c .o2 .given .1)
 
 write-refused-requires : tie.Need-write-refused-requires
 write-refused-requires c κs = search needs
@@ -50,7 +50,7 @@ enum-known-o-2 : tie.Need-enum-known-o-2
 enum-known-o-2 c = search needs
 
 answer-records-requires : tie.Need-answer-records-requires
-answer-records-requires c κs = let h = holds (c .before .before .before) in (omega (arith, h .ends), omega (arith, h .ends))
+answer-records-requires c κs = let h = holds (c .before .before .before) in (omega (arith, records-end h), omega (arith, few-records h (omega arith)))
 
 cast-write-answers : tie.Need-cast-write-answers
 cast-write-answers c = record { fits = omega (arith, holds (c .before .before .before .before .before .before .before .before .before) .few) }
@@ -90,9 +90,9 @@ returns-3 c =
     let h = holds k in
     let words = length (a .queue .now) in
     let t = c .before .before .before .before .before .before .before .before .before .before .answer-records .ensures .0 in
-    let told = c .before .before .before .before .before .before .before .before .before .before .answer-records .last .1 .1 .1 .1 .0 in
-    let e = t ∙ ap (λ (l : List ℕ). put (a .told .now) 0 l) (tells-place (a .file .now) (h .starts) (h .counts) words) in
-    paged (answers-room (k .o2 .given .0 .1 .0) told (a .out .now) (omega (arith, h .ends, c .before .before .before .before .before .before .before .before .before .before .answer-records .kept .1 .1 .1 .1 .0)) (omega (arith, h .ends)))
+    let told = c .before .before .before .before .before .before .before .before .before .before .answer-records .last .1 .1 .1 .1 .1 .0 in
+    let e = t ∙ ap (λ (l : List ℕ). put (a .told .now) 0 l) (tells-place (a .file .now) (h .names) (h .starts) (h .counts) words) in
+    paged (answers-room (k .o2 .given .0 .1 .1 .0) told (a .out .now) (omega (arith, few-records h (omega arith), c .before .before .before .before .before .before .before .before .before .before .answer-records .kept .1 .1 .1 .1 .1 .0)) (omega (arith, few-records h (omega arith))))
     (w .write-answers .ensures)
     (ap (λ (n : ℕ). fileText (rows n told)) (h .counts) ∙ ap (λ (l : List ℕ). fileText (rows (recordCount (a .file .now)) l)) e ∙ file-text (a .file .now) words (a .told .now) (omega arith) (h .none))
     (c .size3 .ensures)

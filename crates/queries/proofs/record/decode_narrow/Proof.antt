@@ -1,8 +1,8 @@
--- `queries::decode` meets its contract: each field is read at its place. Assumes nothing.
-use Rattle.rules.specs.QueryFile.{recordAt}
+-- `queries::record::decode_narrow` meets its contract: each field is read at its place. Assumes nothing.
+use Rattle.rules.specs.QueryFile.{recordBy}
 use borrow.Author.Needs.{needs}
-use Rattle.queries.proofs.decode.Statement.{statement}
-use Rattle.queries.proofs.decode.Tie as tie
+use Rattle.queries.proofs.record.decode_narrow.Statement.{statement}
+use Rattle.queries.proofs.record.decode_narrow.Tie as tie
 
 add-read-points : tie.Need-add-read-points
 add-read-points c = search needs
@@ -68,7 +68,7 @@ read-u32-requires-6 : tie.Need-read-u32-requires-6
 read-u32-requires-6 c κs = search needs
 
 returns : tie.Need-returns
-unfolding recordAt
+unfolding recordBy
 returns c =
     simp (
       c .before .before .before .before .before .read-u32 .ensures,
@@ -80,8 +80,8 @@ returns c =
       c .before .before .before .before .before .before .before .before .before .before .read-points .ensures,
     )
 
-pub decode-spec : {M : Type 1} → statement M
-decode-spec =
+pub decode-narrow-spec : {M : Type 1} → statement M
+decode-narrow-spec =
     tie.close
     (tie.spec
     add-read-points

@@ -1,4 +1,4 @@
--- `queries::write_points` meets its contract: the first i are put. Assumes nothing.
+-- `queries::record::write_points` meets its contract: the first i are put. Assumes nothing.
 use mir.Syntax.{w32}
 use mir.Val.{toZ, ofZ}
 use mir.Facts.{toZ-ofZ}
@@ -14,8 +14,8 @@ use native.Mathlib.Omega.{arith}
 use lib.ListN.{length, take, getD}
 use Rattle.rules.specs.QueryFile.{put}
 use Rattle.rules.specs.QueryFile.{coordinateBytes}
-use Rattle.queries.proofs.write_points.Statement.{statement}
-use Rattle.queries.proofs.write_points.Tie as tie
+use Rattle.queries.proofs.record.write_points.Statement.{statement}
+use Rattle.queries.proofs.record.write_points.Tie as tie
 
 abbrev Inv-loop : tie.InvT-loop
 Inv-loop s₀ at p i₀ s i = (i ≤ 24) × (s ≡ put s₀ at (coordinateBytes (take i p)))

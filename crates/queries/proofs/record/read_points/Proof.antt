@@ -1,4 +1,4 @@
--- `queries::read_points` meets its contract: the first i are those that stand there. Assumes nothing.
+-- `queries::record::read_points` meets its contract: the first i are those that stand there. Assumes nothing.
 use mir.Facts.{toZ-ofZ}
 use borrow.Author.Needs.{sfits-of}
 use Rattle.queries.specs.Coordinates.{read-more, read-end}
@@ -7,8 +7,8 @@ use mathlib.Core.Path.{_≡_, refl, _∙_, subst}
 use native.Mathlib.Omega.{arith}
 use lib.ListN.{length, take, length-set}
 use Rattle.rules.specs.QueryFile.{coordinatesAt}
-use Rattle.queries.proofs.read_points.Statement.{statement}
-use Rattle.queries.proofs.read_points.Tie as tie
+use Rattle.queries.proofs.record.read_points.Statement.{statement}
+use Rattle.queries.proofs.record.read_points.Tie as tie
 
 abbrev Inv-loop : tie.InvT-loop
 Inv-loop s at p₀ i₀ p i = (i ≤ 24) × (length p ≡ 24) × (take i p ≡ coordinatesAt s at i)

@@ -1,4 +1,4 @@
--- `queries::encode` meets its contract: six runs, each right behind the one before. Assumes nothing.
+-- `queries::record::encode_narrow` meets its contract: six runs, each right behind the one before. Assumes nothing.
 use Prim.Native.Nat.{_+_, _≤_}
 use mathlib.Core.Path.{refl}
 use mathlib.Core.List.{[], _∷_, _++_}
@@ -6,10 +6,10 @@ use native.Mathlib.Omega.{arith}
 use lib.ListN.{length}
 use Rattle.little.specs.Put.{one-more}
 use Rattle.rules.specs.QueryFile.{wordBytes}
-use Rattle.rules.specs.QueryFile.{recordBytes, coordinateBytes}
+use Rattle.rules.specs.QueryFile.{bytesBy, coordinateBytes}
 use borrow.Author.Needs.{needs}
-use Rattle.queries.proofs.encode.Statement.{statement}
-use Rattle.queries.proofs.encode.Tie as tie
+use Rattle.queries.proofs.record.encode_narrow.Statement.{statement}
+use Rattle.queries.proofs.record.encode_narrow.Tie as tie
 
 write4-requires : tie.Need-write4-requires
 write4-requires c κs = search needs
@@ -48,7 +48,7 @@ same-length : tie.Need-same-length
 same-length c = search needs
 
 returns : tie.Need-returns
-unfolding recordBytes wordBytes
+unfolding bytesBy wordBytes
 returns c =
     let w5 = c .before .before in
     let w4 = w5 .before .before .before .before .before in
@@ -70,8 +70,8 @@ returns c =
     let e4 = one-more s (w3 .write-u323 .last .0) (w4 .write-u324 .last .0) (a .at) (a .at + 16) (b0 ++ b1 ++ b2 ++ b3) b4 e3 (w4 .write-u324 .ensures) refl (omega arith) in
     one-more s (w4 .write-u324 .last .0) (w5 .write-points .last .0) (a .at) (a .at + 20) (b0 ++ b1 ++ b2 ++ b3 ++ b4) (coordinateBytes (a .r .points)) e4 (w5 .write-points .ensures) refl (omega arith)
 
-pub encode-spec : {M : Type 1} → statement M
-encode-spec =
+pub encode-narrow-spec : {M : Type 1} → statement M
+encode-narrow-spec =
     tie.close
     (tie.spec
     write4-requires

@@ -1,0 +1,117 @@
+-- `queries::record::decode_wide` meets its contract: each field is read at its place. Assumes nothing.
+use Rattle.rules.specs.QueryFile.{recordBy}
+use borrow.Author.Needs.{needs}
+use Rattle.queries.proofs.record.decode_wide.Statement.{statement}
+use Rattle.queries.proofs.record.decode_wide.Tie as tie
+
+add-read-points : tie.Need-add-read-points
+add-read-points c = search needs
+
+read-points-requires : tie.Need-read-points-requires
+read-points-requires c κs = search needs
+
+shared-slice-read-t6 : tie.Need-shared-slice-read-t6
+shared-slice-read-t6 c = search needs
+
+add-t4 : tie.Need-add-t4
+add-t4 c = search needs
+
+shared-slice-read-t8 : tie.Need-shared-slice-read-t8
+shared-slice-read-t8 c = search needs
+
+add-t9 : tie.Need-add-t9
+add-t9 c = search needs
+
+shared-slice-read-t11 : tie.Need-shared-slice-read-t11
+shared-slice-read-t11 c = search needs
+
+add-t12 : tie.Need-add-t12
+add-t12 c = search needs
+
+shared-slice-read-t14 : tie.Need-shared-slice-read-t14
+shared-slice-read-t14 c = search needs
+
+add-read-u32 : tie.Need-add-read-u32
+add-read-u32 c = search needs
+
+read-u32-requires : tie.Need-read-u32-requires
+read-u32-requires c κs = search needs
+
+add-read-u32-2 : tie.Need-add-read-u32-2
+add-read-u32-2 c = search needs
+
+read-u32-requires-2 : tie.Need-read-u32-requires-2
+read-u32-requires-2 c κs = search needs
+
+add-read-u32-3 : tie.Need-add-read-u32-3
+add-read-u32-3 c = search needs
+
+read-u32-requires-3 : tie.Need-read-u32-requires-3
+read-u32-requires-3 c κs = search needs
+
+add-read-u32-4 : tie.Need-add-read-u32-4
+add-read-u32-4 c = search needs
+
+read-u32-requires-4 : tie.Need-read-u32-requires-4
+read-u32-requires-4 c κs = search needs
+
+add-read-u32-5 : tie.Need-add-read-u32-5
+add-read-u32-5 c = search needs
+
+read-u32-requires-5 : tie.Need-read-u32-requires-5
+read-u32-requires-5 c κs = search needs
+
+add-read-u32-6 : tie.Need-add-read-u32-6
+add-read-u32-6 c = search needs
+
+read-u32-requires-6 : tie.Need-read-u32-requires-6
+read-u32-requires-6 c κs = search needs
+
+add-read-u32-7 : tie.Need-add-read-u32-7
+add-read-u32-7 c = search needs
+
+read-u32-requires-7 : tie.Need-read-u32-requires-7
+read-u32-requires-7 c κs = search needs
+
+returns : tie.Need-returns
+unfolding recordBy
+returns c =
+    simp (
+      c .before .before .before .before .before .before .read-u32 .ensures,
+      c .before .before .before .before .before .read-u322 .ensures,
+      c .before .before .before .before .read-u323 .ensures,
+      c .before .before .before .read-u324 .ensures,
+      c .before .before .read-u325 .ensures,
+      c .before .read-u326 .ensures,
+      c .read-u327 .ensures,
+      c .before .before .before .before .before .before .before .before .before .before .before .read-points .ensures,
+    )
+
+pub decode-wide-spec : {M : Type 1} → statement M
+decode-wide-spec =
+    tie.close
+    (tie.spec
+    add-read-points
+    read-points-requires
+    shared-slice-read-t6
+    add-t4
+    shared-slice-read-t8
+    add-t9
+    shared-slice-read-t11
+    add-t12
+    shared-slice-read-t14
+    add-read-u32
+    read-u32-requires
+    add-read-u32-2
+    read-u32-requires-2
+    add-read-u32-3
+    read-u32-requires-3
+    add-read-u32-4
+    read-u32-requires-4
+    add-read-u32-5
+    read-u32-requires-5
+    add-read-u32-6
+    read-u32-requires-6
+    add-read-u32-7
+    read-u32-requires-7
+    returns)
