@@ -1,4 +1,4 @@
--- The proofs, from the ground up: a straight line; a box; the lists of a level; the first survivor; the levels; and the promises.
+-- The proofs, from the ground up: a straight line; a box; the lists of a level; the first survivor; the levels; the promises; and the rules before R-4.
 pub mod Line
 pub mod Side
 pub mod Box
@@ -13,3 +13,4 @@ pub mod Levels
 pub mod Accepted
 pub mod Demands
 pub mod Sharp
+pub mod Old

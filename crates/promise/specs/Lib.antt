@@ -1,2 +1,3 @@
 -- What the written search promises, over the definitions of `rules`; that it does is proved in ../proofs.
 pub mod Promise
+pub mod OldRules
