@@ -1,17 +1,18 @@
 //! The query file: free leading bytes, records, a trailer that points back.
 
-use crate::record::{word_at, Record, RECORD_BYTES};
-use crate::refusals::{check_record, Refusal};
+use crate::edition::Edition;
+use crate::record::{word_at, Record};
+use crate::refusals::{check_record, check_to_write, Refusal};
 
 /// Bytes of the trailer that ends a file.
 pub const TRAILER_BYTES: usize = 16;
 pub const MARK: [u8; 4] = *b"QEND";
-pub const EDITION: u8 = 1;
 pub const MOST_RECORDS: u32 = 4_096;
 
-/// A file that was opened: where its first record stands, and how many there are.
+/// A file that was opened: its edition, where its first record stands, and how many there are.
 #[derive(Clone, Copy, Debug, PartialEq, Eq)]
 pub struct Opened {
+    pub edition: Edition,
     pub first: usize,
     pub count: u32,
 }
@@ -33,7 +34,8 @@ pub fn open(file: &[u8]) -> Result<Opened, Refusal> {
     if trailer[..4] != MARK {
         return Err(Refusal::Mark);
     }
-    if trailer[4] != EDITION || trailer[5..8] != [0; 3] {
+    let edition = Edition::of(trailer[4])?;
+    if trailer[5..8] != [0; 3] {
         return Err(Refusal::Edition);
     }
     let (back, count) = (word_at(trailer, 8), word_at(trailer, 12));
@@ -41,21 +43,20 @@ pub fn open(file: &[u8]) -> Result<Opened, Refusal> {
         return Err(Refusal::Count);
     }
     let back = back as usize;
-    if back != records_bytes(count) || back > before {
+    if back != edition.records_bytes(count) || back > before {
         return Err(Refusal::Back);
     }
-    Ok(Opened { first: before - back, count })
+    Ok(Opened { edition, first: before - back, count })
 }
 
 /// Record n as it stands: refusals 8 to 13, the record itself unchecked.
 pub fn record_at(file: &[u8], n: u32) -> Result<Record, Refusal> {
-    let opened = open(file)?;
-    if n >= opened.count {
+    let Opened { edition, first, count } = open(file)?;
+    if n >= count {
         return Err(Refusal::Index);
     }
-    let from = opened.first + records_bytes(n);
-    let bytes = file[from..from + RECORD_BYTES].try_into();
-    Ok(Record::from_bytes(&bytes.expect("a slice of 116")))
+    let from = first + edition.records_bytes(n);
+    Ok(Record::from_bytes(edition, &file[from..from + edition.record_bytes()]))
 }
 
 /// Record n: refusals 8 to 13, then 1 to 6.
@@ -65,40 +66,50 @@ pub fn fetch(file: &[u8], n: u32) -> Result<Record, RefusedFetch> {
     Ok(record)
 }
 
-/// Writes a record at a place: refusals 1 to 6, then 14.
-pub fn write_record(buffer: &mut [u8], at: usize, record: &Record) -> Result<(), Refusal> {
-    check_record(record)?;
-    let room = room(buffer, at, RECORD_BYTES)?;
-    room.copy_from_slice(&record.bytes());
+/// Writes a record at a place: refusals 1 to 6, then 10, then 14.
+pub fn write_record(
+    buffer: &mut [u8],
+    at: usize,
+    edition: u8,
+    record: &Record,
+) -> Result<(), Refusal> {
+    check_to_write(record, edition)?;
+    let edition = Edition::of(edition)?;
+    let room = room(buffer, at, edition.record_bytes())?;
+    room.copy_from_slice(&record.bytes(edition));
     Ok(())
 }
 
-/// Writes the trailer of so many records at a place behind them: refusals 11, 12, 14.
-pub fn write_trailer(buffer: &mut [u8], at: usize, count: u32) -> Result<(), Refusal> {
+/// Writes the trailer of so many records at a place behind them: refusals 10, 11, 12, 14.
+pub fn write_trailer(buffer: &mut [u8], at: usize, edition: u8, count: u32) -> Result<(), Refusal> {
+    let edition = Edition::of(edition)?;
     if count > MOST_RECORDS {
         return Err(Refusal::Count);
     }
+    let back = edition.records_bytes(count);
     // The place itself is the number of bytes before it, even past the buffer's end.
-    if at < records_bytes(count) {
+    if at < back {
         return Err(Refusal::Back);
     }
     let room = room(buffer, at, TRAILER_BYTES)?;
-    room.copy_from_slice(&trailer(records_bytes(count) as u32, count));
+    room.copy_from_slice(&trailer(edition, back as u32, count));
     Ok(())
 }
 
 /// A trailer's bytes, unchecked: the generators also write wrong ones.
-pub fn trailer(back: u32, count: u32) -> [u8; TRAILER_BYTES] {
+pub fn trailer(edition: Edition, back: u32, count: u32) -> [u8; TRAILER_BYTES] {
     let mut bytes = MARK.to_vec();
-    bytes.extend([EDITION, 0, 0, 0]);
+    bytes.extend([edition.number(), 0, 0, 0]);
     bytes.extend(back.to_le_bytes());
     bytes.extend(count.to_le_bytes());
     bytes.try_into().expect("4 + 4 + 4 + 4 bytes")
 }
 
-/// 116 times a count.
-fn records_bytes(count: u32) -> usize {
-    count as usize * RECORD_BYTES
+/// A file of these records and their trailer, unchecked.
+pub fn file_of(edition: Edition, records: &[Record]) -> Vec<u8> {
+    let mut file: Vec<u8> = records.iter().flat_map(|record| record.bytes(edition)).collect();
+    file.extend(trailer(edition, file.len() as u32, records.len() as u32));
+    file
 }
 
 /// The bytes lent at a place, or 14.

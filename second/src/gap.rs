@@ -42,12 +42,6 @@ impl Motion {
         })
     }
 
-    /// The largest of |Fx|, |Fy|, |Fz|, times Q·Q.
-    pub fn gap(&self, corner: [i128; 3]) -> i128 {
-        let [x, y, z] = self.f(corner).map(i128::abs);
-        x.max(y).max(z)
-    }
-
     /// For t, u, v: the largest axis difference of F between the parameter's ends, times Q·Q.
     pub fn differences(&self) -> [i128; 3] {
         let mut largest = [0; 3];

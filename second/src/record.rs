@@ -1,7 +1,6 @@
-//! A record as a value with every field, and its 116 bytes.
+//! A record as a value with every field, and its bytes in either edition.
 
-/// Bytes of one record in a query file.
-pub const RECORD_BYTES: usize = 116;
+use crate::edition::Edition;
 
 /// Kind of a vertex-face record.
 pub const VERTEX_FACE: u8 = 1;
@@ -19,9 +18,12 @@ pub struct Record {
     pub byte2: u8,
     pub byte3: u8,
     pub id: u32,
-    pub separation: u32,
+    /// On x, y, z; an edition 1 record means three equal ones.
+    pub separations: [u32; 3],
     pub tolerance: u32,
     pub budget: u32,
+    /// The word at 28 of edition 2; an edition 1 record has none and means zero.
+    pub spare: u32,
     /// p, v1, v2, v3 or p1, p2, p3, p4 at t = 0.
     pub start: [Point; 4],
     /// The same points at t = 1.
@@ -29,38 +31,41 @@ pub struct Record {
 }
 
 impl Record {
-    /// The 116 bytes of the record, little-endian, whatever the fields hold.
-    pub fn bytes(&self) -> [u8; RECORD_BYTES] {
+    /// The record's bytes, little-endian, whatever the fields hold; edition 1 has room for x's separation only.
+    pub fn bytes(&self, edition: Edition) -> Vec<u8> {
+        let Record { id, separations: [x, y, z], tolerance, budget, spare, .. } = *self;
+        let numbers = match edition {
+            Edition::One => vec![id, x, tolerance, budget],
+            Edition::Two => vec![id, x, y, z, tolerance, budget, spare],
+        };
         let mut bytes = vec![self.kind, self.flags, self.byte2, self.byte3];
-        for number in [self.id, self.separation, self.tolerance, self.budget] {
-            bytes.extend(number.to_le_bytes());
-        }
-        for point in self.start.iter().chain(&self.end) {
-            for coordinate in point {
-                bytes.extend(coordinate.to_le_bytes());
-            }
-        }
-        bytes.try_into().expect("4 + 16 + 96 bytes")
+        bytes.extend(numbers.into_iter().flat_map(u32::to_le_bytes));
+        let coordinates = self.start.iter().chain(&self.end).flatten();
+        bytes.extend(coordinates.flat_map(|coordinate| coordinate.to_le_bytes()));
+        bytes
     }
 
-    /// The record that 116 bytes say, unchecked.
-    pub fn from_bytes(bytes: &[u8; RECORD_BYTES]) -> Record {
-        let points = |from: usize| {
-            let coordinate =
-                |point: usize, axis: usize| word_at(bytes, from + 12 * point + 4 * axis) as i32;
-            [0, 1, 2, 3].map(|point| [0, 1, 2].map(|axis| coordinate(point, axis)))
+    /// The record that an edition's bytes say, unchecked.
+    pub fn from_bytes(edition: Edition, bytes: &[u8]) -> Record {
+        let word = |at: usize| word_at(bytes, at);
+        let (separations, tolerance, budget, spare, from) = match edition {
+            Edition::One => ([word(8); 3], word(12), word(16), 0, 20),
+            Edition::Two => ([8, 12, 16].map(word), word(20), word(24), word(28), 32),
         };
+        let point = |at: usize| [at, at + 4, at + 8].map(|at| word(at) as i32);
+        let points = |at: usize| [at, at + 12, at + 24, at + 36].map(point);
         Record {
             kind: bytes[0],
             flags: bytes[1],
             byte2: bytes[2],
             byte3: bytes[3],
-            id: word_at(bytes, 4),
-            separation: word_at(bytes, 8),
-            tolerance: word_at(bytes, 12),
-            budget: word_at(bytes, 16),
-            start: points(20),
-            end: points(68),
+            id: word(4),
+            separations,
+            tolerance,
+            budget,
+            spare,
+            start: points(from),
+            end: points(from + 48),
         }
     }
 }

@@ -1,5 +1,6 @@
 //! The refusals' numbers, and the checks on a record and on a queue's length.
 
+use crate::edition::Edition;
 use crate::record::{Record, EDGE_EDGE, VERTEX_FACE};
 
 #[derive(Clone, Copy, Debug, PartialEq, Eq)]
@@ -37,18 +38,28 @@ pub const MOST_WORDS: usize = 1_048_576;
 
 /// Refusals 1 to 6, lowest number first.
 pub fn check_record(record: &Record) -> Result<(), Refusal> {
+    check(record, false)
+}
+
+/// The same for a writer, whose edition may be any number; edition 1 has room for one separation.
+pub fn check_to_write(record: &Record, edition: u8) -> Result<(), Refusal> {
+    check(record, edition == Edition::One.number())
+}
+
+fn check(record: &Record, one_separation: bool) -> Result<(), Refusal> {
     let in_range = |c: &i32| (-MOST_COORDINATE..=MOST_COORDINATE).contains(c);
     let mut coordinates = record.start.iter().chain(&record.end).flatten();
     if record.kind != VERTEX_FACE && record.kind != EDGE_EDGE {
         return Err(Refusal::Kind);
     }
-    if record.flags > 1 || record.byte2 != 0 || record.byte3 != 0 {
+    if record.flags > 1 || record.byte2 != 0 || record.byte3 != 0 || record.spare != 0 {
         return Err(Refusal::Flags);
     }
     if !coordinates.all(in_range) {
         return Err(Refusal::Coord);
     }
-    if record.separation > MOST_SEPARATION {
+    let [x, y, z] = record.separations;
+    if x.max(y).max(z) > MOST_SEPARATION || one_separation && (x != y || y != z) {
         return Err(Refusal::Separation);
     }
     if !(LEAST_TOLERANCE..=MOST_TOLERANCE).contains(&record.tolerance) {

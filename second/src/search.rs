@@ -67,6 +67,8 @@ struct Check {
 struct Search<'a> {
     record: &'a Record,
     motion: Motion,
+    /// By axis, times Q·Q.
+    separations: [i128; 3],
     count: u32,
     recorded: Corner,
 }
@@ -95,6 +97,7 @@ impl<'a> Search<'a> {
         Search {
             record,
             motion: Motion::of(record),
+            separations: record.separations.map(|d| i128::from(d) * Q * Q),
             count: 0,
             recorded: Corner { t: 0, u: 0, v: 0, excess: 0, count: 0 },
         }
@@ -141,19 +144,19 @@ impl<'a> Search<'a> {
         Ok(survivors)
     }
 
-    /// F at the eight corners against d, and the width.
+    /// F at the eight corners against each axis's own separation, and the width.
     fn check(&self, depths: [u32; 3], grid_box: &GridBox) -> Check {
         let ends = [0, 1, 2].map(|n| {
             let index = grid_box[n];
             [place(depths[n], index), place(depths[n], index + 1)]
         });
         let at_corners: Vec<_> = corners(ends).into_iter().map(|c| self.motion.f(c)).collect();
-        let d = self.separation();
         let mut check = Check { survives: true, width: 0 };
         for axis in 0..3 {
             let values = at_corners.iter().map(|f| f[axis]);
             let least = values.clone().min().expect("eight corners");
             let greatest = values.max().expect("eight corners");
+            let d = self.separations[axis];
             check.survives &= least <= d && greatest >= -d;
             check.width = check.width.max(greatest - least);
         }
@@ -168,7 +171,7 @@ impl<'a> Search<'a> {
         width: i128,
     ) -> Result<(), Answer> {
         let low = [0, 1, 2].map(|n| place(depths[n], grid_box[n]));
-        let excess = round_up(0.max(self.motion.gap(low) - self.separation()));
+        let excess = round_up(self.beyond(low));
         let [t, u, v] = low.map(|part| part as u32);
         self.recorded = Corner { t, u, v, excess, count: 0 };
         if excess == 0 || width <= i128::from(self.record.tolerance) * Q * Q {
@@ -210,9 +213,11 @@ impl<'a> Search<'a> {
         Corner { count: self.count, ..self.recorded }
     }
 
-    /// d times Q·Q.
-    fn separation(&self) -> i128 {
-        i128::from(self.record.separation) * Q * Q
+    /// The largest of |F| minus separation over the axes, zero if negative, times Q·Q.
+    fn beyond(&self, corner: [i128; 3]) -> i128 {
+        let f = self.motion.f(corner);
+        let [x, y, z] = [0, 1, 2].map(|axis| f[axis].abs() - self.separations[axis]);
+        0.max(x).max(y).max(z)
     }
 }
 

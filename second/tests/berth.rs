@@ -13,7 +13,7 @@ fn point_falls_through_the_face() {
     assert_eq!(ask(case), met([262144, 0, 0, 500, 5]));
     assert_eq!(ask(Record { tolerance: 2000, ..case }), met([0, 0, 0, 1000, 1]));
     assert_eq!(ask(Record { tolerance: 1000, ..case }), met([0, 0, 0, 1000, 2]));
-    assert_eq!(ask(Record { separation: 500, ..case }), met([0, 0, 0, 500, 4]));
+    assert_eq!(ask(Record { separations: [500; 3], ..case }), met([0, 0, 0, 500, 4]));
 }
 
 #[test]
@@ -34,8 +34,8 @@ fn queue_too_small_for_the_next_level() {
 #[test]
 fn point_that_stops_above() {
     let case = Record { tolerance: 999, ..falls([0, 0, 1000], [0, 0, 200], T) };
-    assert_eq!(ask(Record { separation: 199, ..case }), clear(1));
-    let near = Record { separation: 200, tolerance: 800, ..case };
+    assert_eq!(ask(Record { separations: [199; 3], ..case }), clear(1));
+    let near = Record { separations: [200; 3], tolerance: 800, ..case };
     assert_eq!(ask(near), met([0, 0, 0, 800, 1]));
 }
 
@@ -59,7 +59,7 @@ fn edges_cross() {
         [[-100, 0, 100], [100, 0, 100], still[0], still[1]],
         [[-100, 0, -100], [100, 0, -100], still[0], still[1]],
     );
-    assert_eq!(ask(Record { separation: 100, ..case }), met([0, 0, 0, 0, 1]));
+    assert_eq!(ask(Record { separations: [100; 3], ..case }), met([0, 0, 0, 0, 1]));
 }
 
 #[test]
@@ -68,8 +68,11 @@ fn refused_in_the_order_of_the_numbers() {
     let mut far = case;
     far.end[3][1] = 1_048_577;
     assert_eq!(ask(Record { tolerance: 15, ..case }), Answer::Refused(Refusal::Tolerance));
-    assert_eq!(ask(Record { separation: 65_537, ..case }), Answer::Refused(Refusal::Separation));
+    assert_eq!(
+        ask(Record { separations: [65_537; 3], ..case }),
+        Answer::Refused(Refusal::Separation)
+    );
     assert_eq!(ask(far), Answer::Refused(Refusal::Coord));
-    let all = Record { tolerance: 15, separation: 65_537, ..far };
+    let all = Record { tolerance: 15, separations: [65_537; 3], ..far };
     assert_eq!(ask(all), Answer::Refused(Refusal::Coord));
 }

@@ -13,7 +13,8 @@ const SEEDS: std::ops::Range<u64> = 1..3;
 
 /// The flavours whose files are quick.
 fn cases() -> Vec<Case> {
-    let quick = flavours().into_iter().filter(|name| !["many", "queue"].contains(name));
+    let quick =
+        flavours().into_iter().filter(|name| !["many", "many2", "queue", "queue2"].contains(name));
     let quick: Vec<&str> = quick.collect();
     SEEDS.flat_map(|seed| quick.iter().map(move |name| Case::new(seed, name).unwrap())).collect()
 }

@@ -3,7 +3,8 @@
 mod common;
 
 use common::*;
-use second::file::trailer;
+use second::edition::Edition::One;
+use second::file::file_of;
 use second::record::Record;
 use std::io::Write;
 use std::process::{Command, Stdio};
@@ -26,9 +27,7 @@ fn call(arguments: &[&str], input: &[u8]) -> Option<String> {
 fn example() -> Vec<u8> {
     let beside = Record { id: 2, ..falls([150, 150, 0], [150, 150, 0], T) };
     let poor = Record { id: 3, budget: 4, ..first_case() };
-    let mut file: Vec<u8> = [first_case(), beside, poor].iter().flat_map(Record::bytes).collect();
-    file.extend(trailer(348, 3));
-    file
+    file_of(One, &[first_case(), beside, poor])
 }
 
 #[test]

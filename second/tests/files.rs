@@ -3,6 +3,7 @@
 mod common;
 
 use common::*;
+use second::edition::Edition::One;
 use second::file::{fetch, open, trailer, write_record, write_trailer, Opened, RefusedFetch};
 use second::record::Record;
 use second::refusals::Refusal;
@@ -11,10 +12,10 @@ use second::refusals::Refusal;
 fn file(leading: usize, records: &[Record]) -> Vec<u8> {
     let mut bytes = vec![0xA5; leading + 116 * records.len() + 16];
     for (n, record) in records.iter().enumerate() {
-        write_record(&mut bytes, leading + 116 * n, record).unwrap();
+        write_record(&mut bytes, leading + 116 * n, 1, record).unwrap();
     }
     let at = leading + 116 * records.len();
-    write_trailer(&mut bytes, at, records.len() as u32).unwrap();
+    write_trailer(&mut bytes, at, 1, records.len() as u32).unwrap();
     bytes
 }
 
@@ -23,7 +24,7 @@ fn three() -> [Record; 3] {
     let mut odd = ee([[1, -2, 3], [-4, 5, -6], [7, -8, 9], [-10, 11, -12]], [[-M, M, 0]; 4]);
     odd.flags = 1;
     odd.id = u32::MAX;
-    odd.separation = 65_536;
+    odd.separations = [65_536; 3];
     odd.tolerance = 1_048_576;
     odd.budget = 1_000_000;
     [first_case(), odd, Record { id: 0x01020304, ..falls([5, 6, 7], [-8, -9, -10], T) }]
@@ -37,7 +38,7 @@ fn refused(refusal: Refusal) -> Result<Record, RefusedFetch> {
 fn round_trip() {
     for leading in [0, 1, 15, 16, 17, 116, 300] {
         let bytes = file(leading, &three());
-        assert_eq!(open(&bytes), Ok(Opened { first: leading, count: 3 }));
+        assert_eq!(open(&bytes), Ok(Opened { edition: One, first: leading, count: 3 }));
         for (n, record) in three().iter().enumerate() {
             assert_eq!(fetch(&bytes, n as u32), Ok(*record));
         }
@@ -63,7 +64,7 @@ fn bytes_of_a_record_and_a_trailer() {
 fn no_records() {
     let bytes = file(0, &[]);
     assert_eq!(bytes, *b"QEND\x01\0\0\0\0\0\0\0\0\0\0\0");
-    assert_eq!(open(&bytes), Ok(Opened { first: 0, count: 0 }));
+    assert_eq!(open(&bytes), Ok(Opened { edition: One, first: 0, count: 0 }));
     assert_eq!(fetch(&bytes, 0), refused(Refusal::Index));
 }
 
@@ -79,7 +80,12 @@ fn short_mark_and_edition() {
         for flip in 1..=255 {
             let mut bytes = whole.clone();
             bytes[at + place] ^= flip;
-            let expected = if place < 4 { Refusal::Mark } else { Refusal::Edition };
+            // The byte 2 is edition 2's, whose records are longer.
+            let expected = match (place, bytes[at + place]) {
+                (0..=3, _) => Refusal::Mark,
+                (4, 2) => Refusal::Back,
+                _ => Refusal::Edition,
+            };
             assert_eq!(open(&bytes), Err(expected));
             assert_eq!(fetch(&bytes, 9), refused(expected));
         }
@@ -90,18 +96,21 @@ fn short_mark_and_edition() {
 fn count_and_back_pointer() {
     let end_with = |before: usize, back: u32, count: u32| {
         let mut bytes = vec![0; before];
-        bytes.extend(trailer(back, count));
+        bytes.extend(trailer(One, back, count));
         open(&bytes)
     };
     let most = 4096 * 116;
-    assert_eq!(end_with(most, most as u32, 4096), Ok(Opened { first: 0, count: 4096 }));
+    assert_eq!(
+        end_with(most, most as u32, 4096),
+        Ok(Opened { edition: One, first: 0, count: 4096 })
+    );
     assert_eq!(end_with(most + 116, most as u32 + 116, 4097), Err(Refusal::Count));
     assert_eq!(end_with(0, 0, u32::MAX), Err(Refusal::Count));
     assert_eq!(end_with(most, most as u32 - 1, 4096), Err(Refusal::Back));
     assert_eq!(end_with(most - 1, most as u32, 4096), Err(Refusal::Back));
     assert_eq!(end_with(232, 116, 2), Err(Refusal::Back));
     assert_eq!(end_with(232, 232, 1), Err(Refusal::Back));
-    assert_eq!(end_with(233, 232, 2), Ok(Opened { first: 1, count: 2 }));
+    assert_eq!(end_with(233, 232, 2), Ok(Opened { edition: One, first: 1, count: 2 }));
     assert_eq!(end_with(231, 232, 2), Err(Refusal::Back));
     assert_eq!(end_with(200, 1, 0), Err(Refusal::Back));
     assert_eq!(end_with(0, u32::MAX, 0), Err(Refusal::Back));
@@ -138,13 +147,13 @@ fn index_comes_before_the_record_and_the_record_keeps_its_id() {
 #[test]
 fn writers_change_their_bytes_only() {
     let mut bytes = vec![0xFF; 200];
-    write_record(&mut bytes, 84, &first_case()).unwrap();
+    write_record(&mut bytes, 84, 1, &first_case()).unwrap();
     assert!(bytes[..84].iter().all(|byte| *byte == 0xFF));
-    assert_eq!(bytes[84..], first_case().bytes());
+    assert_eq!(bytes[84..], first_case().bytes(One));
     let mut bytes = vec![0xFF; 200];
-    write_trailer(&mut bytes, 120, 1).unwrap();
+    write_trailer(&mut bytes, 120, 1, 1).unwrap();
     assert!(bytes[..120].iter().chain(&bytes[136..]).all(|byte| *byte == 0xFF));
-    assert_eq!(bytes[120..136], trailer(116, 1));
+    assert_eq!(bytes[120..136], trailer(One, 116, 1));
 }
 
 #[test]
@@ -160,7 +169,7 @@ fn refused_record_writes() {
     ];
     for (at, record, expected) in cases {
         let mut bytes = vec![0xFF; 200];
-        assert_eq!(write_record(&mut bytes, at, &record), expected);
+        assert_eq!(write_record(&mut bytes, at, 1, &record), expected);
         assert_eq!(bytes == vec![0xFF; 200], expected.is_err());
     }
 }
@@ -181,7 +190,7 @@ fn refused_trailer_writes() {
     ];
     for (at, count, expected) in cases {
         let mut bytes = vec![0xFF; 200];
-        assert_eq!(write_trailer(&mut bytes, at, count), expected);
+        assert_eq!(write_trailer(&mut bytes, at, 1, count), expected);
         assert_eq!(bytes == vec![0xFF; 200], expected.is_err());
     }
 }

@@ -168,11 +168,12 @@ fn query(numbers: &[i64]) -> (usize, Record) {
         byte2: numbers[3] as u8,
         byte3: numbers[4] as u8,
         id: numbers[5] as u32,
-        separation: numbers[6] as u32,
-        tolerance: numbers[7] as u32,
-        budget: numbers[8] as u32,
-        start: [9, 12, 15, 18].map(point),
-        end: [21, 24, 27, 30].map(point),
+        separations: [6, 7, 8].map(|n| numbers[n] as u32),
+        tolerance: numbers[9] as u32,
+        budget: numbers[10] as u32,
+        spare: numbers[11] as u32,
+        start: [12, 15, 18, 21].map(point),
+        end: [24, 27, 30, 33].map(point),
     };
     (numbers[0] as usize, record)
 }
@@ -182,18 +183,18 @@ fn queries_tell_the_answer_and_bring_every_sort() {
     let (mut words_seen, mut refusals_seen) = ([0; 6], [0; 8]);
     for line in queries(1, 2000).lines() {
         let numbers: Vec<i64> = line.split(' ').map(|n| n.parse().unwrap()).collect();
-        assert_eq!(numbers.len(), 40);
+        assert_eq!(numbers.len(), 43);
         let (words, record) = query(&numbers);
-        let [t, u, v, excess, count] = [34, 35, 36, 37, 38].map(|n| numbers[n] as u32);
-        let word = ["REFUSED", "MET", "CLEAR", "SPENT", "ROOM", "FLOOR"][numbers[33] as usize];
+        let [t, u, v, excess, count] = [37, 38, 39, 40, 41].map(|n| numbers[n] as u32);
+        let word = ["REFUSED", "MET", "CLEAR", "SPENT", "ROOM", "FLOOR"][numbers[36] as usize];
         let mut expected = format!("9 {word} {t} {u} {v} {excess} {count}\n");
         if word == "REFUSED" {
-            expected = format!("9 REFUSED {}\n", numbers[39]);
+            expected = format!("9 REFUSED {}\n", numbers[42]);
         }
         assert_eq!(second::text::line(9, &search(&record, words)), expected);
         assert!(count <= 60);
-        words_seen[numbers[33] as usize] += 1;
-        refusals_seen[numbers[39] as usize] += 1;
+        words_seen[numbers[36] as usize] += 1;
+        refusals_seen[numbers[42] as usize] += 1;
     }
     assert!(words_seen[..5].iter().all(|number| *number >= 100), "{words_seen:?}");
     assert!(refusals_seen[1..].iter().all(|number| *number >= 10), "{refusals_seen:?}");

@@ -16,7 +16,7 @@ fn s01_hourglass() {
     );
     assert_eq!(ask(case), met([943104, 104448, 104448, 6, 60]));
     assert_eq!(ask(Record { tolerance: 1000, ..case }), met([917504, 65536, 65536, 375, 25]));
-    let apart = Record { separation: 100, ..case };
+    let apart = Record { separations: [100; 3], ..case };
     assert_eq!(ask(apart), spent([929792, 90112, 94208, 37, 1000]));
     let patient = Record { budget: 1_000_000, ..apart };
     assert_eq!(ask(patient), room([931840, 90112, 110592, 19, 4585]));
@@ -93,8 +93,8 @@ fn s09_and_s10_coplanar_and_apart() {
     assert_eq!(ask(falls([1000, 1000, 0], [1000, 500, 0], G)), clear(1));
     let past = falls([300, 50, 0], [50, 300, 0], T);
     assert_eq!(ask(past), clear(52));
-    assert_eq!(ask(Record { separation: 49, ..past }), clear(159));
-    let touches = Record { separation: 75, budget: 2000, ..past };
+    assert_eq!(ask(Record { separations: [49; 3], ..past }), clear(159));
+    let touches = Record { separations: [75; 3], budget: 2000, ..past };
     assert_eq!(ask(touches), met([0, 819200, 180224, 13, 1295]));
 }
 
@@ -117,7 +117,7 @@ fn s12_parallel_edges_meet_along_a_line() {
     let longer = Record { budget: 4000, ..case };
     assert_eq!(search(&longer, 2030), room([520192, 0, 0, 8, 3899]));
     assert_eq!(search(&longer, 2032), met([520192, 0, 0, 8, 3900]));
-    let apart = Record { separation: 100, budget: 1_000_000, ..case };
+    let apart = Record { separations: [100; 3], budget: 1_000_000, ..case };
     let (answer, trace) = search_traced(&apart, MOST_WORDS);
     assert_eq!(answer, met([471040, 0, 0, 2, 102524]));
     assert_eq!(trace.peak, 88088);
@@ -166,11 +166,11 @@ fn s18_and_s19_contact_at_an_end_of_time() {
 
 #[test]
 fn s20_and_s21_one_instant() {
-    let graze = Record { separation: 100, ..falls([-300, -500, 0], [500, 300, 0], O) };
+    let graze = Record { separations: [100; 3], ..falls([-300, -500, 0], [500, 300, 0], O) };
     assert_eq!(ask(graze), met([507904, 0, 0, 13, 21]));
-    let one_less = Record { separation: 100, ..falls([-300, -501, 0], [500, 299, 0], O) };
+    let one_less = Record { separations: [100; 3], ..falls([-300, -501, 0], [500, 299, 0], O) };
     assert_eq!(ask(one_less), met([524288, 0, 0, 1, 12]));
-    assert_eq!(ask(Record { separation: 99, ..graze }), clear(3));
+    assert_eq!(ask(Record { separations: [99; 3], ..graze }), clear(3));
     assert_eq!(ask(falls([400, 400, 0], [0, 0, 1000], T)), clear(11));
 }
 
@@ -178,8 +178,8 @@ fn s20_and_s21_one_instant() {
 fn s22_both_bodies_move_alike() {
     let start = [[0, 0, 100], T[0], T[1], T[2]];
     let case = vf(start, start.map(|[x, y, z]| [x + 1_000_000, y, z]));
-    assert_eq!(ask(Record { separation: 99, ..case }), clear(1));
-    assert_eq!(ask(Record { separation: 100, ..case }), met([0, 0, 0, 0, 1]));
+    assert_eq!(ask(Record { separations: [99; 3], ..case }), clear(1));
+    assert_eq!(ask(Record { separations: [100; 3], ..case }), met([0, 0, 0, 0, 1]));
 }
 
 #[test]
@@ -222,5 +222,5 @@ fn s26_sliding_in_the_plane() {
 fn s27_one_unit_apart_at_the_corner_of_the_range() {
     let case = falls([M; 3], [M; 3], [[M, M, M - 1], [M - 1, M, M - 1], [M, M - 1, M - 1]]);
     assert_eq!(ask(case), clear(1));
-    assert_eq!(ask(Record { separation: 1, ..case }), met([0, 0, 0, 0, 1]));
+    assert_eq!(ask(Record { separations: [1; 3], ..case }), met([0, 0, 0, 0, 1]));
 }

@@ -19,7 +19,7 @@ fn spoil(record: &mut Record, number: u32) {
         1 => record.kind = 3,
         2 => record.flags = 2,
         3 => record.start[2][0] = i32::MIN,
-        4 => record.separation = 65_537,
+        4 => record.separations = [65_537; 3],
         5 => record.tolerance = 15,
         6 => record.budget = 0,
         _ => panic!("not a record's refusal"),
@@ -88,7 +88,7 @@ fn every_coordinate_is_checked() {
 #[test]
 fn ends_of_the_other_ranges() {
     for (separation, expected) in [(0, 0), (65_536, 0), (65_537, 4), (u32::MAX, 4)] {
-        assert_eq!(number(ask(Record { separation, ..first_case() })), expected);
+        assert_eq!(number(ask(Record { separations: [separation; 3], ..first_case() })), expected);
     }
     for (tolerance, expected) in [(0, 5), (15, 5), (16, 0), (M as u32, 0), (M as u32 + 1, 5)] {
         assert_eq!(number(ask(Record { tolerance, ..first_case() })), expected);

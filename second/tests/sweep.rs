@@ -3,17 +3,15 @@
 mod common;
 
 use common::*;
-use second::file::trailer;
+use second::edition::Edition::One;
+use second::file::file_of;
 use second::record::Record;
 use second::text::{sweep, sweep_any_length};
 
 /// A file of these records, refused ones among them.
 fn file(leading: usize, records: &[Record]) -> Vec<u8> {
     let mut bytes = vec![0; leading];
-    for record in records {
-        bytes.extend(record.bytes());
-    }
-    bytes.extend(trailer(116 * records.len() as u32, records.len() as u32));
+    bytes.extend(file_of(One, records));
     bytes
 }
 

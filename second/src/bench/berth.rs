@@ -1,7 +1,6 @@
 //! Queries of one berth: a box gangway over a ship's side and deck, sampled from pairs of near triangles.
 
-use crate::file::trailer;
-use crate::record::{Point, Record, EDGE_EDGE, RECORD_BYTES, VERTEX_FACE};
+use crate::record::{Point, Record, EDGE_EDGE, VERTEX_FACE};
 use crate::rng::Rng;
 
 /// Units of a metre.
@@ -59,9 +58,10 @@ impl Berth {
             byte2: 0,
             byte3: 0,
             id: self.rng.draw() as u32,
-            separation: self.rng.pick(&SEPARATIONS),
+            separations: [self.rng.pick(&SEPARATIONS); 3],
             tolerance: self.rng.between(16, 80) as u32,
             budget: BUDGET,
+            spare: 0,
             start: points[0],
             end: points[1],
         }
@@ -78,13 +78,6 @@ fn points(query: usize, a: &[Point; 3], b: &[Point; 3]) -> [Point; 4] {
             [a[m], a[(m + 1) % 3], b[n], b[(n + 1) % 3]]
         }
     }
-}
-
-/// A query file of these records.
-pub fn file_of(records: &[Record]) -> Vec<u8> {
-    let mut file: Vec<u8> = records.iter().flat_map(Record::bytes).collect();
-    file.extend(trailer((RECORD_BYTES * records.len()) as u32, records.len() as u32));
-    file
 }
 
 impl Step {

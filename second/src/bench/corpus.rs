@@ -1,7 +1,9 @@
 //! The berth's queries as files, those decided at level 0 apart from the others.
 
-use super::berth::{file_of, Berth};
+use super::berth::Berth;
 use super::plain;
+use crate::edition::Edition;
+use crate::file::file_of;
 use crate::record::Record;
 
 pub const SEED: u64 = 1;
@@ -36,7 +38,7 @@ impl Corpus {
             }
         }
         let class = |name, records: Vec<Record>| {
-            let (file, queries) = (file_of(&records), records.len());
+            let (file, queries) = (file_of(Edition::One, &records), records.len());
             Class { name, file, queries }
         };
         let classes =
@@ -47,6 +49,6 @@ impl Corpus {
 
 fn boxes(record: &Record) -> u32 {
     let (mut queue, mut told) = (vec![0; QUEUE_WORDS], [0; 8]);
-    plain::answers::<true>(&file_of(&[*record]), &mut queue, &mut told);
+    plain::answers::<true>(&file_of(Edition::One, &[*record]), &mut queue, &mut told);
     told[6]
 }

@@ -1,7 +1,6 @@
 //! Source document 004's method in f64, section 6 on top of Algorithm 2, for its time alone.
 
-use super::reading::{self, records};
-use crate::record::RECORD_BYTES;
+use super::reading::{self, records, ONE};
 use std::cmp::Ordering;
 use std::collections::BinaryHeap;
 
@@ -17,7 +16,7 @@ pub struct Query {
     vertex_face: bool,
     start: [[f64; 3]; 4],
     end: [[f64; 3]; 4],
-    separation: f64,
+    separations: [f64; 3],
     delta: f64,
     most_checks: u32,
 }
@@ -47,7 +46,7 @@ impl Query {
             vertex_face: query.vertex_face(),
             start: points[0],
             end: points[1],
-            separation: f64::from(query.separation) * METRES,
+            separations: query.separations.map(|d| f64::from(d) * METRES),
             delta: f64::from(query.tolerance) * METRES,
             most_checks: query.budget,
         }
@@ -55,14 +54,14 @@ impl Query {
 
     /// The cube's half side on each axis: d and the filter of the axis.
     fn cube(&self) -> [f64; 3] {
-        let filters = if self.separation > 0.0 { FILTERS_APART } else { FILTERS };
+        let filters = if self.separations != [0.0; 3] { FILTERS_APART } else { FILTERS };
         let filter = filters[usize::from(self.vertex_face)];
         let mut cube = [1.0_f64; 3];
         for (axis, side) in cube.iter_mut().enumerate() {
             for point in self.start.iter().chain(&self.end) {
                 *side = greater(point[axis].abs(), *side);
             }
-            *side = self.separation + filter * *side * *side * *side;
+            *side = self.separations[axis] + filter * *side * *side * *side;
         }
         cube
     }
@@ -196,7 +195,7 @@ impl PartialEq for Interval {
 
 impl Eq for Interval {}
 
-/// The queries of a query file without leading bytes, one after the other.
+/// The queries of an edition 1 file without leading bytes, one after the other.
 pub fn queries(file: &[u8]) -> impl Iterator<Item = Query> + '_ {
-    records(file, 0, file.len() / RECORD_BYTES).map(|query| Query::of(&query))
+    records::<ONE>(file, 0, file.len() / ONE).map(|query| Query::of(&query))
 }

@@ -61,10 +61,11 @@ impl Motion {
         (least, greatest)
     }
 
-    /// The gap times Q·Q at a place.
-    pub fn gap(&self, place: [i64; 3]) -> i64 {
-        let span = |axis| self.span(axis, &place.map(|part| [part; 2])).0.abs();
-        span(0).max(span(1)).max(span(2))
+    /// The largest of |F| minus separation at a place, both times Q·Q, zero if negative.
+    pub fn beyond(&self, place: [i64; 3], separations: &[i64; 3]) -> i64 {
+        let ends = place.map(|part| [part; 2]);
+        let beyond = |axis: usize| self.span(axis, &ends).0.abs() - separations[axis];
+        beyond(0).max(beyond(1)).max(beyond(2)).max(0)
     }
 
     /// For t, u, v: the largest axis difference of F between the parameter's ends.

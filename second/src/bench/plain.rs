@@ -1,8 +1,9 @@
 //! An exact search written by hand for speed: same answers, same calls, a fixed queue. Its yardstick is time, not proof.
 
 use super::motion::{Ends, Motion, Q, UNIT};
-use super::reading::{records, Query};
-use crate::file::open;
+use super::reading::{records, Query, ONE, TWO};
+use crate::edition::Edition;
+use crate::file::{open, Opened};
 
 const DEEPEST: u32 = 20;
 /// Where the t, u and v index stand in a stored box.
@@ -19,12 +20,26 @@ pub fn answers<const LEAVE: bool>(file: &[u8], queue: &mut [u64], told: &mut [u3
         Ok(opened) => opened,
         Err(refusal) => return refusal.number(),
     };
-    let count = opened.count as usize;
-    if told.len() < 8 * count {
+    if told.len() < 8 * opened.count as usize {
         return 14;
     }
+    match opened.edition {
+        Edition::One => all::<LEAVE, ONE>(file, opened, queue, told),
+        Edition::Two => all::<LEAVE, TWO>(file, opened, queue, told),
+    }
+    0
+}
+
+/// Every record of an opened file; SIZE is its edition's.
+fn all<const LEAVE: bool, const SIZE: usize>(
+    file: &[u8],
+    opened: Opened,
+    queue: &mut [u64],
+    told: &mut [u32],
+) {
     let mut zeroed = false;
-    for (query, told) in records(file, opened.first, count).zip(told.chunks_exact_mut(8)) {
+    let records = records::<SIZE>(file, opened.first, opened.count as usize);
+    for (query, told) in records.zip(told.chunks_exact_mut(8)) {
         let refusal = query.refusal(queue.len());
         let mut numbers = [query.id, 0, 0, 0, 0, 0, 0, refusal];
         if refusal == 0 {
@@ -36,12 +51,11 @@ pub fn answers<const LEAVE: bool>(file: &[u8], queue: &mut [u64], told: &mut [u3
         }
         told.copy_from_slice(&numbers);
     }
-    0
 }
 
 struct Search {
     motion: Motion,
-    separation: i64,
+    separations: [i64; 3],
     tolerance: i64,
     budget: u32,
     count: u32,
@@ -58,7 +72,7 @@ impl Search {
     fn of(query: &Query) -> Search {
         Search {
             motion: Motion::of(query),
-            separation: i64::from(query.separation) * UNIT,
+            separations: query.separations.map(|d| i64::from(d) * UNIT),
             tolerance: i64::from(query.tolerance) * UNIT,
             budget: query.budget,
             count: 0,
@@ -133,7 +147,8 @@ impl Search {
         let (mut survives, mut thin) = (true, true);
         for axis in 0..3 {
             let (least, greatest) = self.motion.span(axis, ends);
-            survives &= least <= self.separation && greatest >= -self.separation;
+            let d = self.separations[axis];
+            survives &= least <= d && greatest >= -d;
             if LEAVE && !survives {
                 return None;
             }
@@ -145,7 +160,7 @@ impl Search {
 
     fn record_first(&mut self, ends: &Ends, thin: bool) -> Result<(), u32> {
         let low = ends.map(|ends| ends[0]);
-        let excess = (self.motion.gap(low) - self.separation).max(0);
+        let excess = self.motion.beyond(low, &self.separations);
         let excess = ((excess + (UNIT - 1)) / UNIT) as u32;
         let [t, u, v] = low.map(|part| part as u32);
         self.recorded = [t, u, v, excess];

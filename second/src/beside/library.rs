@@ -4,6 +4,7 @@ use super::buffers::{After, Lent};
 use super::expected::{answered, Expected, TOLD};
 use super::tally::Tally;
 use super::{Case, LONG};
+use crate::edition::Edition;
 use crate::rng::Rng;
 
 /// File, queue, told; a slice is a pointer and then a length.
@@ -53,6 +54,7 @@ pub struct Caller<'a> {
     /// The file's bytes, from an address of any alignment.
     shifted: Vec<u8>,
     shift: usize,
+    edition: Edition,
     tally: &'a mut Tally,
     rng: Rng,
     pub differences: Vec<String>,
@@ -63,7 +65,8 @@ impl<'a> Caller<'a> {
         let mut rng = Rng::new(case.seed, "calls");
         let shift = rng.below(8);
         let shifted = [vec![0; shift], case.file.clone()].concat();
-        Caller { library, shifted, shift, tally, rng, differences: Vec::new() }
+        let edition = case.edition();
+        Caller { library, shifted, shift, edition, tally, rng, differences: Vec::new() }
     }
 
     fn file(&self) -> &[u8] {
@@ -90,7 +93,7 @@ impl<'a> Caller<'a> {
         let flat = must.as_ref().map(|records| records.concat()).map_err(|number| *number);
         let any = must.as_ref().is_ok_and(|records| records.iter().any(answered));
         if let Ok(records) = &must {
-            records.iter().for_each(|told| self.tally.told(told));
+            records.iter().for_each(|told| self.tally.told(self.edition, told));
         }
         self.judge(&call, code, &flat, any, &queue, &told);
     }
@@ -119,7 +122,7 @@ impl<'a> Caller<'a> {
         let code = self.library.answer(self.file(), n, queue.slice(), told.slice());
         let must = expected.one(n, lent);
         if let Ok(told) = &must {
-            self.tally.told(told);
+            self.tally.told(self.edition, told);
         }
         let any = must.as_ref().is_ok_and(answered);
         self.judge(&call, code, &must.map(Vec::from), any, &queue, &told);

@@ -13,6 +13,8 @@ pub mod walk;
 pub use expected::Expected;
 pub use library::Library;
 
+use crate::edition::Edition;
+use crate::file::open;
 use crate::gen::{flavours, generate, words::words};
 use crate::rng::Rng;
 use library::Caller;
@@ -40,6 +42,11 @@ impl Case {
         let mut case = Case { seed, flavour, file, words };
         case.thin_out();
         Some(case)
+    }
+
+    /// Of the file, or 1 where it is none that can be opened: nothing is told of its records.
+    pub fn edition(&self) -> Edition {
+        open(&self.file).map_or(Edition::One, |opened| opened.edition)
     }
 
     /// Keeps a crowd's lengths few, and the longest to one file in four.

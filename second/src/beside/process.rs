@@ -9,7 +9,7 @@ use std::process::{Command, Stdio};
 /// What differs between the program's output and the second program's text, a line each.
 pub fn compare(program: &[String], case: &Case, tally: &mut Tally) -> Vec<String> {
     let must = sweep(&case.file, SWEEP_WORDS);
-    tally.text(&must);
+    tally.text(case.edition(), &must);
     match output(program, &case.file) {
         Err(fault) => vec![format!("sweep: {fault}")],
         Ok(text) if text == must => Vec::new(),

@@ -1,6 +1,7 @@
 //! What a comparison has gone through.
 
 use super::expected::TOLD;
+use crate::edition::Edition;
 use std::fmt;
 
 const WORDS: [&str; 6] = ["REFUSED", "MET", "CLEAR", "SPENT", "ROOM", "FLOOR"];
@@ -10,7 +11,8 @@ pub struct Tally {
     pub files: u64,
     pub differing: u64,
     calls: u64,
-    queries: u64,
+    /// Records compared, of edition 1 and of edition 2.
+    queries: [u64; 2],
     boxes: u64,
     /// Answers by word, refused records first.
     words: [u64; 6],
@@ -33,9 +35,9 @@ impl Tally {
         }
     }
 
-    /// What must be told of a record.
-    pub fn told(&mut self, told: &[u32; TOLD]) {
-        self.queries += 1;
+    /// What must be told of a record of a file of this edition.
+    pub fn told(&mut self, edition: Edition, told: &[u32; TOLD]) {
+        self.queries[usize::from(edition.number()) - 1] += 1;
         self.boxes += u64::from(told[6]);
         self.words[told[1] as usize] += 1;
         if told[1] == 0 {
@@ -43,8 +45,8 @@ impl Tally {
         }
     }
 
-    /// What `sweep` must print of a file.
-    pub fn text(&mut self, text: &str) {
+    /// What `sweep` must print of a file of this edition.
+    pub fn text(&mut self, edition: Edition, text: &str) {
         let mut refusal = None;
         for line in text.lines() {
             let fields: Vec<&str> = line.split(' ').collect();
@@ -53,8 +55,8 @@ impl Tally {
             match fields[..] {
                 ["FILE", _] => refusal = Some(last),
                 ["TOTAL", ..] => {}
-                [_, "REFUSED", _] => self.told(&[0, 0, 0, 0, 0, 0, 0, last]),
-                _ => self.told(&[0, word, 0, 0, 0, 0, last, 0]),
+                [_, "REFUSED", _] => self.told(edition, &[0, 0, 0, 0, 0, 0, 0, last]),
+                _ => self.told(edition, &[0, word, 0, 0, 0, 0, last, 0]),
             }
         }
         self.call(refusal);
@@ -63,8 +65,9 @@ impl Tally {
 
 impl fmt::Display for Tally {
     fn fmt(&self, f: &mut fmt::Formatter) -> fmt::Result {
-        let Tally { files, differing, calls, queries, boxes, .. } = self;
-        write!(f, "{files} files, {calls} calls, {queries} queries, {boxes} boxes;")?;
+        let Tally { files, differing, calls, queries: [one, two], boxes, .. } = self;
+        write!(f, "{files} files, {calls} calls, {} queries", one + two)?;
+        write!(f, " (edition 1: {one}, edition 2: {two}), {boxes} boxes;")?;
         for (name, number) in WORDS.iter().zip(self.words) {
             write!(f, " {name} {number}")?;
         }

@@ -1,14 +1,15 @@
 //! Refused records, damaged files and cut files.
 
+use super::dice::Dice;
 use super::shapes::tiny;
-use super::{file_of, with_ids};
-use crate::file::{fetch, MOST_RECORDS, TRAILER_BYTES};
-use crate::record::Record;
+use super::with_ids;
+use crate::edition::Edition;
+use crate::file::{fetch, file_of, MOST_RECORDS, TRAILER_BYTES};
+use crate::record::{word_at, Record};
 use crate::refusals::{MOST_BUDGET, MOST_COORDINATE as M, MOST_SEPARATION, MOST_TOLERANCE};
-use crate::rng::Rng;
 
 /// Mostly a record with one refusal or several, else one at the ends of the ranges.
-pub fn maybe_refused(rng: &mut Rng) -> Record {
+pub fn maybe_refused(rng: &mut Dice) -> Record {
     if rng.one_in(6) {
         return at_the_ends(rng);
     }
@@ -16,7 +17,7 @@ pub fn maybe_refused(rng: &mut Rng) -> Record {
 }
 
 /// Refusals 1 to 6: one alone, or any set.
-pub fn refused(rng: &mut Rng) -> Record {
+pub fn refused(rng: &mut Dice) -> Record {
     let chosen = if rng.one_in(2) { 1 << rng.below(6) } else { 1 + rng.below(63) };
     let mut record = tiny(rng);
     for number in (1..=6).filter(|number| chosen >> (number - 1) & 1 == 1) {
@@ -25,18 +26,27 @@ pub fn refused(rng: &mut Rng) -> Record {
     record
 }
 
-fn spoil(rng: &mut Rng, record: &mut Record, number: u32) {
+fn spoil(rng: &mut Dice, record: &mut Record, number: u32) {
     match number {
         1 => record.kind = rng.pick(&[0, 3, 4, 128, 129, 255]),
         2 => spoil_flags(rng, record),
         3 => spoil_coordinate(rng, record),
-        4 => record.separation = rng.pick(&[MOST_SEPARATION + 1, 1 << 31, u32::MAX]),
+        4 => {
+            let far = rng.pick(&[MOST_SEPARATION + 1, 1 << 31, u32::MAX]);
+            rng.put(&mut record.separations, far);
+        }
         5 => record.tolerance = rng.pick(&[0, 1, 15, MOST_TOLERANCE + 1, 1 << 31, u32::MAX]),
         _ => record.budget = rng.pick(&[0, MOST_BUDGET + 1, 1 << 31, u32::MAX]),
     }
 }
 
-fn spoil_flags(rng: &mut Rng, record: &mut Record) {
+fn spoil_flags(rng: &mut Dice, record: &mut Record) {
+    if rng.is_two() && rng.one_in(3) {
+        record.spare = rng.pick(&[1, 1 << 8, 1 << 20, 1 << 31, u32::MAX]);
+        if rng.one_in(2) {
+            return;
+        }
+    }
     let byte = rng.pick(&[1, 2, 0x80, 0xFF]);
     match rng.below(4) {
         0 => record.flags |= rng.pick(&[2, 4, 8, 16, 32, 64, 128, 0xFE]),
@@ -46,19 +56,19 @@ fn spoil_flags(rng: &mut Rng, record: &mut Record) {
     }
 }
 
-fn spoil_coordinate(rng: &mut Rng, record: &mut Record) {
+fn spoil_coordinate(rng: &mut Dice, record: &mut Record) {
     let coordinate = rng.pick(&[M + 1, -M - 1, i32::MIN, i32::MAX, i32::MIN + 1, 1 << 30]);
     let points = if rng.one_in(2) { &mut record.start } else { &mut record.end };
     points[rng.below(4)][rng.below(3)] = coordinate;
 }
 
 /// Valid, with numbers at the very ends of their ranges.
-fn at_the_ends(rng: &mut Rng) -> Record {
+fn at_the_ends(rng: &mut Dice) -> Record {
     let mut record = tiny(rng);
     // A large budget was fit for the numbers that change here.
     record.budget = record.budget.min(400);
     match rng.below(5) {
-        0 => record.separation = MOST_SEPARATION,
+        0 => rng.put(&mut record.separations, MOST_SEPARATION),
         1 => record.tolerance = MOST_TOLERANCE,
         2 => record.tolerance = 16,
         3 => record.budget = 1,
@@ -71,23 +81,27 @@ fn at_the_ends(rng: &mut Rng) -> Record {
 }
 
 /// A few records and a right trailer, to be damaged.
-fn sound(rng: &mut Rng) -> Vec<u8> {
+fn sound(rng: &mut Dice) -> Vec<u8> {
     let count = rng.below(12);
     let records: Vec<Record> = (0..count).map(|_| quick(rng)).collect();
-    let leading = rng.pick(&[0, 0, 1, 116, 150]);
+    let size = rng.edition.record_bytes();
+    let leading = rng.pick(&[0, 0, 1, size, 150]);
     let mut file = rng.bytes(leading);
-    file.extend(file_of(&with_ids(rng, records)));
+    file.extend(file_of(rng.edition, &with_ids(rng, records)));
     file
 }
 
 /// A record with a small budget, as the damage may make its search a long one.
-fn quick(rng: &mut Rng) -> Record {
+fn quick(rng: &mut Dice) -> Record {
     let record = tiny(rng);
     Record { budget: record.budget.min(200), ..record }
 }
 
 /// Wrong trailers in every combination, or flipped bits.
-pub fn damaged(rng: &mut Rng) -> Vec<u8> {
+pub fn damaged(rng: &mut Dice) -> Vec<u8> {
+    if rng.is_two() && rng.one_in(3) {
+        return of_two_editions(rng);
+    }
     let mut file = sound(rng);
     match rng.below(4) {
         0 | 1 => {
@@ -101,18 +115,41 @@ pub fn damaged(rng: &mut Rng) -> Vec<u8> {
 }
 
 /// Flips bits of the whole file, but gives no record a budget that takes long.
-fn flip_anywhere(rng: &mut Rng, file: &mut Vec<u8>) {
+fn flip_anywhere(rng: &mut Dice, file: &mut Vec<u8>) {
     let mut flipped = file.clone();
     flip(rng, &mut flipped, file.len());
-    let slow = |n: u32| fetch(&flipped, n).is_ok_and(|record| record.budget > 2000);
-    if !(0..MOST_RECORDS).any(slow) {
+    if !is_slow(&flipped) {
         *file = flipped;
     }
 }
 
-/// Bits 0 to 3 of the choice: mark, edition, count, back pointer.
-fn damage_trailer(rng: &mut Rng, file: &mut [u8], chosen: usize) {
+fn is_slow(file: &[u8]) -> bool {
+    (0..MOST_RECORDS).any(|n| fetch(file, n).is_ok_and(|record| record.budget > 2000))
+}
+
+/// Records of one edition before a trailer of any, which points back by either size.
+fn of_two_editions(rng: &mut Dice) -> Vec<u8> {
+    let count = rng.below(12);
+    let records: Vec<Record> = (0..count).map(|_| quick(rng)).collect();
+    let [of_records, of_pointer] = [(); 2].map(|()| rng.pick(&[Edition::One, Edition::Two]));
+    // With so many more bytes before them, shorter records reach as far back as longer ones.
+    let leading = rng.pick(&[0, 12 * count, (12 * count).saturating_sub(1), 150]);
+    let mut file = rng.bytes(leading);
+    file.extend(file_of(of_records, &with_ids(rng, records)));
     let at = file.len() - TRAILER_BYTES;
+    file[at + 4] = rng.pick(&[0, 1, 1, 2, 2, 3, 255]);
+    let back = of_pointer.records_bytes(count as u32) as u32;
+    file[at + 8..at + 12].copy_from_slice(&back.to_le_bytes());
+    if is_slow(&file) {
+        file[at + 4] = 0;
+    }
+    file
+}
+
+/// Bits 0 to 3 of the choice: mark, edition, count, back pointer.
+fn damage_trailer(rng: &mut Dice, file: &mut [u8], chosen: usize) {
+    let at = file.len() - TRAILER_BYTES;
+    let size = rng.edition.record_bytes() as u32;
     let trailer = &mut file[at..];
     if chosen & 1 != 0 {
         trailer[rng.below(4)] ^= rng.pick(&[1, 0x20, 0x80, 0xFF]);
@@ -120,7 +157,7 @@ fn damage_trailer(rng: &mut Rng, file: &mut [u8], chosen: usize) {
     if chosen & 2 != 0 {
         trailer[4 + rng.below(4)] ^= rng.pick(&[1, 2, 3, 0x80]);
     }
-    let mut count = crate::record::word_at(trailer, 12);
+    let mut count = word_at(trailer, 12);
     if chosen & 4 != 0 {
         let near = [count.wrapping_sub(1), count + 1, count + 2, 0];
         let far = [4095, 4096, 4097, 4098, 1 << 31, u32::MAX, 37_025_581];
@@ -128,19 +165,19 @@ fn damage_trailer(rng: &mut Rng, file: &mut [u8], chosen: usize) {
         trailer[12..].copy_from_slice(&count.to_le_bytes());
         // A pointer that agrees with the wrong count tells the two halves of 12 apart.
         if rng.one_in(2) {
-            trailer[8..12].copy_from_slice(&count.wrapping_mul(116).to_le_bytes());
+            trailer[8..12].copy_from_slice(&count.wrapping_mul(size).to_le_bytes());
         }
     }
     if chosen & 8 != 0 {
-        let back = count.wrapping_mul(116);
-        let shift = [1, 115, 116, 117, 1 << 16, 1 << 31, u32::MAX, u32::MAX - 115];
+        let back = count.wrapping_mul(size);
+        let shift = [1, size - 1, size, size + 1, 1 << 16, 1 << 31, u32::MAX, u32::MAX - size + 1];
         let back = back.wrapping_add(rng.pick(&shift));
         trailer[8..12].copy_from_slice(&back.to_le_bytes());
     }
 }
 
 /// Flips one to four bits among the last bytes.
-fn flip(rng: &mut Rng, file: &mut [u8], last: usize) {
+fn flip(rng: &mut Dice, file: &mut [u8], last: usize) {
     for _ in 0..1 + rng.below(4) {
         let place = file.len() - 1 - rng.below(last);
         file[place] ^= 1 << rng.below(8);
@@ -148,9 +185,10 @@ fn flip(rng: &mut Rng, file: &mut [u8], last: usize) {
 }
 
 /// A file with bytes cut off before, behind or within, or with some put behind.
-pub fn truncated(rng: &mut Rng) -> Vec<u8> {
+pub fn truncated(rng: &mut Dice) -> Vec<u8> {
     let mut file = sound(rng);
-    let few = rng.pick(&[1, 2, 15, 16, 17, 115, 116, 117]).min(file.len());
+    let size = rng.edition.record_bytes();
+    let few = rng.pick(&[1, 2, 15, 16, 17, size - 1, size, size + 1]).min(file.len());
     let any = rng.below(file.len() + 1);
     let cut = rng.pick(&[few, any]);
     match rng.below(6) {

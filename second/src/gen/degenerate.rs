@@ -1,13 +1,13 @@
 //! Records with collapsed, parallel, coincident and still parts.
 
+use super::dice::Dice;
 use super::shapes::{aim, finish, point, record};
 use crate::record::{Point, Record, EDGE_EDGE, VERTEX_FACE};
-use crate::rng::Rng;
 
 /// A start and an end of four points.
 type Points = [[Point; 4]; 2];
 
-pub fn degenerate(rng: &mut Rng) -> Record {
+pub fn degenerate(rng: &mut Dice) -> Record {
     let reach = rng.pick(&[30, 100, 400, 1000, 100_000]);
     let (kind, points) = match rng.below(10) {
         0 => (VERTEX_FACE, collapsed_face(rng, reach)),
@@ -37,7 +37,7 @@ fn times(factor: i32, a: Point) -> Point {
 }
 
 /// Two or three corners of the face are one point.
-fn collapsed_face(rng: &mut Rng, reach: i32) -> Points {
+fn collapsed_face(rng: &mut Dice, reach: i32) -> Points {
     let (a, b) = (point(rng, reach), point(rng, reach));
     let face = rng.pick(&[[a, a, a], [a, a, b], [a, b, a], [b, a, a]]);
     let moved = if rng.one_in(2) { face } else { face.map(|p| times(-1, p)) };
@@ -50,14 +50,14 @@ fn behind(p: Point, face: [Point; 3]) -> [Point; 4] {
 }
 
 /// The face's corners lie on one line.
-fn collinear_face(rng: &mut Rng, reach: i32) -> Points {
+fn collinear_face(rng: &mut Dice, reach: i32) -> Points {
     let (a, way) = (point(rng, reach), point(rng, reach / 4));
     let face = [a, add(a, times(rng.between(-3, 3), way)), add(a, times(2, way))];
     [behind(point(rng, reach), face), behind(point(rng, reach), face)]
 }
 
 /// A proper face shrinks to one point, or turns inside out.
-fn collapsing_face(rng: &mut Rng, reach: i32) -> Points {
+fn collapsing_face(rng: &mut Dice, reach: i32) -> Points {
     let face = [point(rng, reach), point(rng, reach), point(rng, reach)];
     let last = [[face[0]; 3], [[0; 3]; 3], [face[0], face[2], face[1]]];
     let last = rng.pick(&last);
@@ -65,7 +65,7 @@ fn collapsing_face(rng: &mut Rng, reach: i32) -> Points {
 }
 
 /// A point that stands on, or falls through, a corner, a side or the plane of a level face.
-fn point_on_the_rim(rng: &mut Rng, reach: i32) -> Points {
+fn point_on_the_rim(rng: &mut Dice, reach: i32) -> Points {
     let side = 4 * (1 + rng.below((reach / 4) as usize) as i32);
     let face = [[0, 0, 0], [side, 0, 0], [0, side, 0]];
     let (half, part) = (side / 2, side / 4);
@@ -78,7 +78,7 @@ fn point_on_the_rim(rng: &mut Rng, reach: i32) -> Points {
 }
 
 /// Edges of one direction that pass each other.
-fn parallel_edges(rng: &mut Rng, reach: i32) -> Points {
+fn parallel_edges(rng: &mut Dice, reach: i32) -> Points {
     let ways = [[reach, 0, 0], [reach, reach, 0], point(rng, reach)];
     let way = rng.pick(&ways);
     let (from, to) = (point(rng, reach), point(rng, reach));
@@ -89,7 +89,7 @@ fn parallel_edges(rng: &mut Rng, reach: i32) -> Points {
 }
 
 /// Edges on one line that slide along it.
-fn collinear_edges(rng: &mut Rng, reach: i32) -> Points {
+fn collinear_edges(rng: &mut Dice, reach: i32) -> Points {
     let way = [[1, 0, 0], [0, 1, 1], [1, -1, 1]];
     let way = rng.pick(&way);
     let mut on_line = || times(rng.between(-reach, reach), way);
@@ -99,7 +99,7 @@ fn collinear_edges(rng: &mut Rng, reach: i32) -> Points {
 }
 
 /// The edges are one edge at the start, at the end, or always.
-fn coincident_edges(rng: &mut Rng, reach: i32) -> Points {
+fn coincident_edges(rng: &mut Dice, reach: i32) -> Points {
     let (a, b, c, d) = (point(rng, reach), point(rng, reach), point(rng, reach), point(rng, reach));
     let one = [a, b, a, b];
     let turned = [a, b, b, a];
@@ -108,7 +108,7 @@ fn coincident_edges(rng: &mut Rng, reach: i32) -> Points {
 }
 
 /// Nothing moves; now and then all the points are one.
-fn still(rng: &mut Rng, reach: i32) -> Points {
+fn still(rng: &mut Dice, reach: i32) -> Points {
     let a = point(rng, reach);
     let mut points = [a; 4];
     if !rng.one_in(4) {
@@ -118,7 +118,7 @@ fn still(rng: &mut Rng, reach: i32) -> Points {
 }
 
 /// Both bodies move by the same way.
-fn alike(rng: &mut Rng, reach: i32) -> Points {
+fn alike(rng: &mut Dice, reach: i32) -> Points {
     let points = super::shapes::four(|| point(rng, reach));
     let way = point(rng, 500_000);
     [points, points.map(|p| add(p, way))]

@@ -2,71 +2,75 @@
 
 mod bad;
 mod degenerate;
+mod dice;
 pub mod queries;
 mod shapes;
 mod sizes;
 mod tuned;
 pub mod words;
 
-use crate::file::trailer;
-use crate::record::{Record, RECORD_BYTES};
-use crate::rng::Rng;
+use crate::edition::Edition;
+use crate::file::file_of;
+use crate::record::Record;
+use dice::Dice;
 
-type Make = fn(&mut Rng) -> Vec<u8>;
+type Make = fn(&mut Dice) -> Vec<u8>;
 
-/// Every flavour and what makes its files.
-const FLAVOURS: [(&str, Make); 17] = [
-    ("tiny", |rng| plain(rng, shapes::tiny)),
-    ("full", |rng| plain(rng, shapes::full)),
-    ("degenerate", |rng| plain(rng, degenerate::degenerate)),
-    ("extreme", |rng| plain(rng, shapes::extreme)),
-    ("mixed", |rng| plain(rng, mixed)),
-    ("budget", tuned::budget),
-    ("queue", tuned::queue),
-    ("refusals", |rng| plain(rng, bad::maybe_refused)),
-    ("damaged", bad::damaged),
-    ("truncated", bad::truncated),
-    ("many", sizes::many),
-    ("most", sizes::most),
-    ("edge65536", |rng| sizes::exactly(rng, 65_536)),
-    ("edge65537", |rng| sizes::exactly(rng, 65_537)),
-    ("empty", sizes::empty),
-    ("leading", sizes::leading),
-    ("one", |rng| vec_of(rng, 1, mixed)),
+/// Every flavour's name in edition 1 and in edition 2, and what makes its files.
+const FLAVOURS: [([&str; 2], Make); 17] = [
+    (["tiny", "tiny2"], |rng| plain(rng, shapes::tiny)),
+    (["full", "full2"], |rng| plain(rng, shapes::full)),
+    (["degenerate", "degenerate2"], |rng| plain(rng, degenerate::degenerate)),
+    (["extreme", "extreme2"], |rng| plain(rng, shapes::extreme)),
+    (["mixed", "mixed2"], |rng| plain(rng, mixed)),
+    (["budget", "budget2"], tuned::budget),
+    (["queue", "queue2"], tuned::queue),
+    (["refusals", "refusals2"], |rng| plain(rng, bad::maybe_refused)),
+    (["damaged", "damaged2"], bad::damaged),
+    (["truncated", "truncated2"], bad::truncated),
+    (["many", "many2"], sizes::many),
+    (["most", "most2"], sizes::most),
+    (["edge65536", "edge65536-2"], |rng| sizes::exactly(rng, 65_536)),
+    (["edge65537", "edge65537-2"], |rng| sizes::exactly(rng, 65_537)),
+    (["empty", "empty2"], sizes::empty),
+    (["leading", "leading2"], sizes::leading),
+    (["one", "one2"], |rng| vec_of(rng, 1, mixed)),
 ];
 
 /// The flavours' names.
 pub fn flavours() -> Vec<&'static str> {
-    FLAVOURS.iter().map(|(name, _)| *name).collect()
+    FLAVOURS.iter().flat_map(|(names, _)| *names).collect()
 }
 
 /// The file of a seed and a flavour, if there is such a flavour.
 pub fn generate(seed: u64, flavour: &str) -> Option<Vec<u8>> {
-    let (name, make) = FLAVOURS.iter().find(|(name, _)| *name == flavour)?;
-    Some(make(&mut Rng::new(seed, name)))
+    let named = |names: &[&str; 2]| names.iter().position(|name| *name == flavour);
+    let (place, make) = FLAVOURS.iter().find_map(|(names, make)| Some((named(names)?, make)))?;
+    let edition = [Edition::One, Edition::Two][place];
+    Some(make(&mut Dice::new(seed, flavour, edition)))
 }
 
 /// 10 to 40 records of one shape, sometimes behind a few free bytes.
-fn plain(rng: &mut Rng, shape: fn(&mut Rng) -> Record) -> Vec<u8> {
+fn plain(rng: &mut Dice, shape: fn(&mut Dice) -> Record) -> Vec<u8> {
     let count = 10 + rng.below(31);
     let mut file = if rng.one_in(4) { free_bytes(rng) } else { Vec::new() };
     file.extend(vec_of(rng, count, shape));
     file
 }
 
-fn free_bytes(rng: &mut Rng) -> Vec<u8> {
+fn free_bytes(rng: &mut Dice) -> Vec<u8> {
     let length = 1 + rng.below(200);
     rng.bytes(length)
 }
 
 /// A file of so many records of one shape.
-fn vec_of(rng: &mut Rng, count: usize, shape: fn(&mut Rng) -> Record) -> Vec<u8> {
+fn vec_of(rng: &mut Dice, count: usize, shape: fn(&mut Dice) -> Record) -> Vec<u8> {
     let records: Vec<Record> = (0..count).map(|_| shape(rng)).collect();
-    file_of(&with_ids(rng, records))
+    file_of(rng.edition, &with_ids(rng, records))
 }
 
 /// A record of any valid shape, sometimes a refused one.
-fn mixed(rng: &mut Rng) -> Record {
+fn mixed(rng: &mut Dice) -> Record {
     match rng.below(9) {
         0..=2 => shapes::tiny(rng),
         3 | 4 => degenerate::degenerate(rng),
@@ -77,18 +81,11 @@ fn mixed(rng: &mut Rng) -> Record {
 }
 
 /// Ids mostly 1, 2, 3 and so on, sometimes any number, equal ones too.
-fn with_ids(rng: &mut Rng, mut records: Vec<Record>) -> Vec<Record> {
+fn with_ids(rng: &mut Dice, mut records: Vec<Record>) -> Vec<Record> {
     let plain_ids = !rng.one_in(3);
     for (n, record) in records.iter_mut().enumerate() {
         let odd = [0, 1, u32::MAX, 1 << 31, rng.draw() as u32];
         record.id = if plain_ids { n as u32 + 1 } else { rng.pick(&odd) };
     }
     records
-}
-
-/// Records and a right trailer, with no check on the records.
-fn file_of(records: &[Record]) -> Vec<u8> {
-    let mut file: Vec<u8> = records.iter().flat_map(Record::bytes).collect();
-    file.extend(trailer((RECORD_BYTES * records.len()) as u32, records.len() as u32));
-    file
 }

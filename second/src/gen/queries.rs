@@ -2,11 +2,12 @@
 
 use super::bad::refused;
 use super::degenerate::degenerate;
+use super::dice::Dice;
 use super::shapes::{extreme, full, tiny};
 use super::tuned::brick;
+use crate::edition::Edition;
 use crate::record::Record;
 use crate::refusals::MOST_WORDS;
-use crate::rng::Rng;
 use crate::search::{search, search_traced, Answer};
 use crate::told::told;
 
@@ -15,11 +16,11 @@ const CHEAP: u32 = 60;
 
 /// So many lines: words, the record's fields, then the answer's seven numbers.
 pub fn queries(seed: u64, number: usize) -> String {
-    let mut rng = Rng::new(seed, "queries");
+    let mut rng = Dice::new(seed, "queries", Edition::Two);
     (0..number).map(|_| line(&mut rng)).collect()
 }
 
-fn line(rng: &mut Rng) -> String {
+fn line(rng: &mut Dice) -> String {
     let (words, mut record) = if rng.one_in(6) { refused_query(rng) } else { cheap_query(rng) };
     record.id = rng.pick(&[0, 1, 77, u32::MAX]);
     let answer = told(&search(&record, words)).map(i64::from);
@@ -30,7 +31,8 @@ fn line(rng: &mut Rng) -> String {
 
 fn fields(words: usize, record: &Record) -> Vec<i64> {
     let bytes = [record.kind, record.flags, record.byte2, record.byte3];
-    let numbers = [record.id, record.separation, record.tolerance, record.budget];
+    let [x, y, z] = record.separations;
+    let numbers = [record.id, x, y, z, record.tolerance, record.budget, record.spare];
     let coordinates = record.start.iter().chain(&record.end).flatten();
     let mut fields = vec![words as i64];
     fields.extend(bytes.map(i64::from));
@@ -40,7 +42,7 @@ fn fields(words: usize, record: &Record) -> Vec<i64> {
 }
 
 /// Refusals 1 to 6, 7, or both.
-fn refused_query(rng: &mut Rng) -> (usize, Record) {
+fn refused_query(rng: &mut Dice) -> (usize, Record) {
     let bad_words = rng.pick(&[0, 1, MOST_WORDS + 1]);
     match rng.below(4) {
         0 => (bad_words, cheap(rng).0),
@@ -50,7 +52,7 @@ fn refused_query(rng: &mut Rng) -> (usize, Record) {
 }
 
 /// A cheap record and a queue, often one around its exact need.
-fn cheap_query(rng: &mut Rng) -> (usize, Record) {
+fn cheap_query(rng: &mut Dice) -> (usize, Record) {
     let (record, peak) = cheap(rng);
     let words = match rng.below(4) {
         0 => 4096,
@@ -61,7 +63,7 @@ fn cheap_query(rng: &mut Rng) -> (usize, Record) {
 }
 
 /// A record that needs few boxes, and the boxes of its largest level.
-fn cheap(rng: &mut Rng) -> (Record, usize) {
+fn cheap(rng: &mut Dice) -> (Record, usize) {
     let base = match rng.below(9) {
         0..=3 => tiny(rng),
         4 | 5 => degenerate(rng),

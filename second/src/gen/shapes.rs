@@ -1,9 +1,9 @@
 //! Records by the shape of their coordinates.
 
+use super::dice::Dice;
 use crate::gap::{Motion, Q};
 use crate::record::{Point, Record, EDGE_EDGE, VERTEX_FACE};
 use crate::refusals::{MOST_COORDINATE as M, MOST_TOLERANCE};
-use crate::rng::Rng;
 use crate::search::{search, Answer};
 
 /// Half the range, so that a start plus a velocity stays inside it.
@@ -15,12 +15,12 @@ pub fn four(mut point: impl FnMut() -> Point) -> [Point; 4] {
 }
 
 /// A point of a cube with this half side.
-pub fn point(rng: &mut Rng, reach: i32) -> Point {
+pub fn point(rng: &mut Dice, reach: i32) -> Point {
     [0; 3].map(|_| rng.between(-reach, reach))
 }
 
 /// A record of these points, its other numbers fit for motions of this reach.
-pub fn record(rng: &mut Rng, kind: u8, reach: i32, points: [[Point; 4]; 2]) -> Record {
+pub fn record(rng: &mut Dice, kind: u8, reach: i32, points: [[Point; 4]; 2]) -> Record {
     let budget = budget(rng);
     Record {
         kind,
@@ -28,20 +28,21 @@ pub fn record(rng: &mut Rng, kind: u8, reach: i32, points: [[Point; 4]; 2]) -> R
         byte2: 0,
         byte3: 0,
         id: 0,
-        separation: separation(rng, reach),
+        separations: rng.separations(|rng| separation(rng, reach)),
         tolerance: tolerance(rng, reach),
         budget,
+        spare: 0,
         start: points[0],
         end: points[1],
     }
 }
 
-pub fn kind(rng: &mut Rng) -> u8 {
+pub fn kind(rng: &mut Dice) -> u8 {
     rng.pick(&[VERTEX_FACE, EDGE_EDGE])
 }
 
 /// Mostly a few hundred, so that a file is swept quickly.
-fn budget(rng: &mut Rng) -> u32 {
+fn budget(rng: &mut Dice) -> u32 {
     match rng.below(30) {
         0 => 2000,
         1..=5 => rng.between(1, 20) as u32,
@@ -49,12 +50,12 @@ fn budget(rng: &mut Rng) -> u32 {
     }
 }
 
-fn separation(rng: &mut Rng, reach: i32) -> u32 {
+fn separation(rng: &mut Dice, reach: i32) -> u32 {
     let any = rng.between(0, reach / 2);
     rng.pick(&[0, 0, 0, 1, reach / 10, any]).min(65_536) as u32
 }
 
-fn tolerance(rng: &mut Rng, reach: i32) -> u32 {
+fn tolerance(rng: &mut Dice, reach: i32) -> u32 {
     let close = rng.between(16, 64);
     let octaves = rng.below(21);
     let any = rng.between(0, 1 << octaves);
@@ -62,7 +63,7 @@ fn tolerance(rng: &mut Rng, reach: i32) -> u32 {
 }
 
 /// Moves the first body so that F is near nought at a random place.
-pub fn aim(rng: &mut Rng, mut record: Record) -> Record {
+pub fn aim(rng: &mut Dice, mut record: Record) -> Record {
     let u = rng.below(9);
     let v = rng.below(if record.kind == VERTEX_FACE { 9 - u } else { 9 });
     let place = [rng.below(9), u, v].map(|eighths| eighths as i128 * (Q / 8));
@@ -79,7 +80,7 @@ pub fn aim(rng: &mut Rng, mut record: Record) -> Record {
 }
 
 /// A far larger budget where the answer comes quickly without it.
-pub fn generous(rng: &mut Rng, record: Record) -> Record {
+pub fn generous(rng: &mut Dice, record: Record) -> Record {
     let quick = Record { budget: 300, ..record };
     match search(&quick, 4096) {
         Answer::Met(_) | Answer::Clear { .. } => {
@@ -91,7 +92,7 @@ pub fn generous(rng: &mut Rng, record: Record) -> Record {
 }
 
 /// Aimed and given a large budget, each now and then.
-pub fn finish(rng: &mut Rng, record: Record) -> Record {
+pub fn finish(rng: &mut Dice, record: Record) -> Record {
     let record = if rng.one_in(3) { record } else { aim(rng, record) };
     if rng.one_in(4) {
         generous(rng, record)
@@ -101,7 +102,7 @@ pub fn finish(rng: &mut Rng, record: Record) -> Record {
 }
 
 /// Small coordinates, sometimes on a coarse lattice, where splits tie.
-pub fn tiny(rng: &mut Rng) -> Record {
+pub fn tiny(rng: &mut Dice) -> Record {
     let reach = rng.pick(&[3, 20, 50, 100, 200, 500, 1000, 3000]);
     let step = rng.pick(&[1, 1, 1, reach.min(10), reach / 2, reach]);
     let mut lattice = || point(rng, reach / step).map(|coordinate| step * coordinate);
@@ -116,7 +117,7 @@ pub fn tiny(rng: &mut Rng) -> Record {
 }
 
 /// The whole range: two bodies thrown at each other along one direction.
-pub fn full(rng: &mut Rng) -> Record {
+pub fn full(rng: &mut Dice) -> Record {
     let direction = point(rng, S);
     let kind = kind(rng);
     let first_body = if kind == VERTEX_FACE { 1 } else { 2 };
@@ -138,7 +139,7 @@ pub fn full(rng: &mut Rng) -> Record {
 }
 
 /// Every coordinate at an end of the range or nought; half have a width of 2 to 63.
-pub fn extreme(rng: &mut Rng) -> Record {
+pub fn extreme(rng: &mut Dice) -> Record {
     let ends: &[i32] = if rng.one_in(2) { &[-M, M] } else { &[-M, 0, M] };
     let mut corner = || [0; 3].map(|_| rng.pick(ends));
     let (mut start, mut end) = (four(&mut corner), four(&mut corner));
@@ -148,7 +149,7 @@ pub fn extreme(rng: &mut Rng) -> Record {
         widest(rng, &mut start, &mut end);
     }
     let mut record = record(rng, kind, M, [start, end]);
-    record.separation = rng.pick(&[0, 0, 1, 65_535, 65_536]);
+    record.separations = rng.separations(|rng| rng.pick(&[0, 0, 1, 65_535, 65_536]));
     record.tolerance = rng.pick(&[16, 16, 1000, MOST_TOLERANCE - 1, MOST_TOLERANCE]);
     if rng.one_in(4) {
         record = generous(rng, record);
@@ -157,7 +158,7 @@ pub fn extreme(rng: &mut Rng) -> Record {
 }
 
 /// p and v1 from one end of an axis to the other, v2 and v3 against them.
-fn widest(rng: &mut Rng, start: &mut [Point; 4], end: &mut [Point; 4]) {
+fn widest(rng: &mut Dice, start: &mut [Point; 4], end: &mut [Point; 4]) {
     let axis = rng.below(3);
     let side = rng.pick(&[-M, M]);
     for (n, sign) in [1, 1, -1, -1].into_iter().enumerate() {

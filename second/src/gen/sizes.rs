@@ -1,15 +1,15 @@
 //! Files at the ends of what a file may hold.
 
 use super::bad::maybe_refused;
+use super::dice::Dice;
 use super::shapes::tiny;
-use super::{file_of, mixed, vec_of, with_ids};
-use crate::file::{trailer, MOST_RECORDS, TRAILER_BYTES};
-use crate::record::{Record, RECORD_BYTES};
-use crate::rng::Rng;
+use super::{mixed, vec_of, with_ids};
+use crate::file::{file_of, trailer, MOST_RECORDS, TRAILER_BYTES};
+use crate::record::Record;
 use crate::text::MOST_INPUT;
 
 /// A record that is answered within a few boxes.
-fn small(rng: &mut Rng, most: u32) -> Record {
+fn small(rng: &mut Dice, most: u32) -> Record {
     let record = if rng.one_in(16) { maybe_refused(rng) } else { tiny(rng) };
     // A refused budget stays refused.
     let valid = (1..=crate::refusals::MOST_BUDGET).contains(&record.budget);
@@ -17,23 +17,24 @@ fn small(rng: &mut Rng, most: u32) -> Record {
 }
 
 /// So many small records.
-fn crowd(rng: &mut Rng, count: usize, most: u32) -> Vec<u8> {
+fn crowd(rng: &mut Dice, count: usize, most: u32) -> Vec<u8> {
     let records = (0..count).map(|_| small(rng, most)).collect();
-    file_of(&with_ids(rng, records))
+    file_of(rng.edition, &with_ids(rng, records))
 }
 
 /// As many records as a file may hold: too long for `sweep`.
-pub fn many(rng: &mut Rng) -> Vec<u8> {
+pub fn many(rng: &mut Dice) -> Vec<u8> {
     crowd(rng, MOST_RECORDS as usize, 8)
 }
 
 /// As many records as `sweep` takes.
-pub fn most(rng: &mut Rng) -> Vec<u8> {
-    crowd(rng, (MOST_INPUT - TRAILER_BYTES) / RECORD_BYTES, 40)
+pub fn most(rng: &mut Dice) -> Vec<u8> {
+    let count = (MOST_INPUT - TRAILER_BYTES) / rng.edition.record_bytes();
+    crowd(rng, count, 40)
 }
 
 /// A file of exactly this length, the rest of it leading bytes.
-pub fn exactly(rng: &mut Rng, length: usize) -> Vec<u8> {
+pub fn exactly(rng: &mut Dice, length: usize) -> Vec<u8> {
     let file = match rng.below(4) {
         0 => most(rng),
         1 => vec_of(rng, 0, tiny),
@@ -52,12 +53,12 @@ pub fn exactly(rng: &mut Rng, length: usize) -> Vec<u8> {
 }
 
 /// Leading bytes: noughts, noise, or trailers one behind the other.
-fn filler(rng: &mut Rng, length: usize) -> Vec<u8> {
+fn filler(rng: &mut Dice, length: usize) -> Vec<u8> {
     match rng.below(3) {
         0 => vec![0; length],
         1 => rng.bytes(length),
         _ => {
-            let mut bytes = trailer(0, 0).repeat(length / TRAILER_BYTES + 1);
+            let mut bytes = trailer(rng.edition, 0, 0).repeat(length / TRAILER_BYTES + 1);
             // The end of the leading bytes is the place where a wrong reader looks.
             bytes.drain(..bytes.len() - length);
             bytes
@@ -66,15 +67,16 @@ fn filler(rng: &mut Rng, length: usize) -> Vec<u8> {
 }
 
 /// No records: right trailers, wrong pointers, and files too short for a trailer.
-pub fn empty(rng: &mut Rng) -> Vec<u8> {
+pub fn empty(rng: &mut Dice) -> Vec<u8> {
     let length = rng.below(40);
-    let right = trailer(0, 0).to_vec();
+    let (edition, size) = (rng.edition, rng.edition.record_bytes() as u32);
+    let right = trailer(edition, 0, 0).to_vec();
     match rng.below(6) {
         0 => right,
         1 => [rng.bytes(length), right].concat(),
         2 => {
-            let back = rng.pick(&[1, 16, 116, 1 << 31, u32::MAX]);
-            [rng.bytes(length), trailer(back, 0).to_vec()].concat()
+            let back = rng.pick(&[1, 16, size, 1 << 31, u32::MAX]);
+            [rng.bytes(length), trailer(edition, back, 0).to_vec()].concat()
         }
         3 => {
             let length = rng.below(21);
@@ -93,14 +95,14 @@ pub fn empty(rng: &mut Rng) -> Vec<u8> {
 }
 
 /// Free leading bytes of every sort, some of which look like a trailer or a record.
-pub fn leading(rng: &mut Rng) -> Vec<u8> {
+pub fn leading(rng: &mut Dice) -> Vec<u8> {
     let count = rng.below(25);
     let file = vec_of(rng, count, mixed);
     let length = rng.below(400);
     let before = match rng.below(5) {
         0 => filler(rng, length),
-        1 => trailer((RECORD_BYTES * count) as u32, count as u32).to_vec(),
-        2 => small(rng, 20).bytes().to_vec(),
+        1 => file[file.len() - TRAILER_BYTES..].to_vec(),
+        2 => small(rng, 20).bytes(rng.edition),
         3 => vec_of(rng, 2, tiny),
         _ => [filler(rng, length), b"QEND".to_vec()].concat(),
     };

@@ -1,15 +1,16 @@
 //! Records aimed at the exact count of a budget and at the exact need of a queue.
 
 use super::degenerate::degenerate;
+use super::dice::Dice;
 use super::shapes::{extreme, full, tiny};
-use super::{file_of, with_ids};
+use super::with_ids;
+use crate::file::file_of;
 use crate::record::{Record, EDGE_EDGE};
 use crate::refusals::MOST_WORDS;
-use crate::rng::Rng;
 use crate::search::search_traced;
 
 /// Budgets at a count where something happens, one below and one above.
-pub fn budget(rng: &mut Rng) -> Vec<u8> {
+pub fn budget(rng: &mut Dice) -> Vec<u8> {
     let enough = 12 + rng.below(20);
     let mut records = Vec::new();
     while records.len() < enough {
@@ -21,10 +22,10 @@ pub fn budget(rng: &mut Rng) -> Vec<u8> {
             }
         }
     }
-    file_of(&with_ids(rng, records))
+    file_of(rng.edition, &with_ids(rng, records))
 }
 
-fn any_shape(rng: &mut Rng) -> Record {
+fn any_shape(rng: &mut Dice) -> Record {
     match rng.below(8) {
         0..=2 => tiny(rng),
         3 | 4 => degenerate(rng),
@@ -35,7 +36,7 @@ fn any_shape(rng: &mut Rng) -> Record {
 }
 
 /// The answer's count, or the count at which a level ends.
-fn telling_count(rng: &mut Rng, base: &Record) -> u32 {
+fn telling_count(rng: &mut Dice, base: &Record) -> u32 {
     let (answer, trace) = search_traced(&Record { budget: 400, ..*base }, 4096);
     if trace.level_ends.is_empty() || !rng.one_in(3) {
         return answer.count();
@@ -44,17 +45,17 @@ fn telling_count(rng: &mut Rng, base: &Record) -> u32 {
 }
 
 /// Levels of several boxes, and one record whose largest level is about 2,048 boxes.
-pub fn queue(rng: &mut Rng) -> Vec<u8> {
+pub fn queue(rng: &mut Dice) -> Vec<u8> {
     let count = 9 + rng.below(15);
     let mut records: Vec<Record> = (0..count).map(|_| crowded(rng)).collect();
     // Among the first few, where the lengths worth trying are taken from.
     let place = rng.below(3);
     records.insert(place, heavy(rng));
-    file_of(&with_ids(rng, records))
+    file_of(rng.edition, &with_ids(rng, records))
 }
 
 /// A record with a level of three boxes at least.
-fn crowded(rng: &mut Rng) -> Record {
+fn crowded(rng: &mut Dice) -> Record {
     loop {
         let budget = rng.between(20, 500) as u32;
         let record = if rng.one_in(3) { brick(rng, budget) } else { any_shape(rng) };
@@ -72,9 +73,9 @@ pub fn peak(record: &Record) -> usize {
 }
 
 /// Around the half of 4,096 words, just enough or just too much for it.
-fn heavy(rng: &mut Rng) -> Record {
+fn heavy(rng: &mut Dice) -> Record {
     let wanted = rng.pick(&[(1900, 2048), (2049, 2300)]);
-    let family = rng.pick(&[|rng: &mut Rng| brick(rng, 5000), parallel]);
+    let family = rng.pick(&[|rng: &mut Dice| brick(rng, 5000), parallel]);
     let mut record = family(rng);
     for _ in 0..6 {
         if (wanted.0..=wanted.1).contains(&peak(&record)) {
@@ -86,7 +87,7 @@ fn heavy(rng: &mut Rng) -> Record {
 }
 
 /// Parallel edges that meet along a line, whose levels are of many sizes.
-fn parallel(rng: &mut Rng) -> Record {
+fn parallel(rng: &mut Dice) -> Record {
     let length = rng.between(1800, 2400);
     let height = rng.between(900, 1100);
     let shift = rng.between(0, 40);
@@ -99,16 +100,17 @@ fn parallel(rng: &mut Rng) -> Record {
         byte3: 0,
         id: 0,
         // A wider band of contact makes larger levels, by a few boxes at a time.
-        separation: rng.between(0, 24) as u32,
+        separations: rng.separations(|rng| rng.between(0, 24) as u32),
         tolerance: 16 + rng.below(10) as u32,
         budget: 9000,
+        spare: 0,
         start: moving(height),
         end: moving(-height),
     }
 }
 
 /// Crossing edges where F is one axis a parameter, so that nearly every box survives.
-pub fn brick(rng: &mut Rng, budget: u32) -> Record {
+pub fn brick(rng: &mut Dice, budget: u32) -> Record {
     let d = rng.pick(&[64, 100, 999, 4096, 30_000]);
     let spread = rng.pick(&[0, 0, 1, d / 8, d / 3]);
     let mut span = || rng.pick(&[2 * d, d, d / 2]) + rng.between(0, spread);
@@ -128,9 +130,10 @@ pub fn brick(rng: &mut Rng, budget: u32) -> Record {
         byte2: 0,
         byte3: 0,
         id: 0,
-        separation: d as u32,
+        separations: rng.separations(|rng| rng.around(d as u32)),
         tolerance: (((2 * d) >> halvings) + rng.between(0, 3)).max(16) as u32,
         budget,
+        spare: 0,
         start: turned(from),
         end: turned(to),
     }

@@ -12,9 +12,10 @@ fn crossing(tolerance: u32) -> Record {
         byte2: 0,
         byte3: 0,
         id: 1,
-        separation: 0,
+        separations: [0; 3],
         tolerance,
         budget: 1_000_000,
+        spare: 0,
         start: [[-b, 0, b], [a, 0, b], [0, -c / 2, 0], [0, c, 0]],
         end: [[-b, 0, -a], [a, 0, -a], [0, -c / 2, 0], [0, c, 0]],
     }

@@ -20,9 +20,10 @@ fn record(kind: u8, start: [Point; 4], end: [Point; 4]) -> Record {
         byte2: 0,
         byte3: 0,
         id: 1,
-        separation: 0,
+        separations: [0; 3],
         tolerance: 16,
         budget: 1000,
+        spare: 0,
         start,
         end,
     }
