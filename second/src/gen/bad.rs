@@ -31,10 +31,7 @@ fn spoil(rng: &mut Dice, record: &mut Record, number: u32) {
         1 => record.kind = rng.pick(&[0, 3, 4, 128, 129, 255]),
         2 => spoil_flags(rng, record),
         3 => spoil_coordinate(rng, record),
-        4 => {
-            let far = rng.pick(&[MOST_SEPARATION + 1, 1 << 31, u32::MAX]);
-            rng.put(&mut record.separations, far);
-        }
+        4 => spoil_separation(rng, record),
         5 => record.tolerance = rng.pick(&[0, 1, 15, MOST_TOLERANCE + 1, 1 << 31, u32::MAX]),
         _ => record.budget = rng.pick(&[0, MOST_BUDGET + 1, 1 << 31, u32::MAX]),
     }
@@ -42,7 +39,7 @@ fn spoil(rng: &mut Dice, record: &mut Record, number: u32) {
 
 fn spoil_flags(rng: &mut Dice, record: &mut Record) {
     if rng.is_two() && rng.one_in(3) {
-        record.spare = rng.pick(&[1, 1 << 8, 1 << 20, 1 << 31, u32::MAX]);
+        spoil_spare(rng, record);
         if rng.one_in(2) {
             return;
         }
@@ -54,6 +51,16 @@ fn spoil_flags(rng: &mut Dice, record: &mut Record) {
         2 => record.byte3 = byte,
         _ => (record.flags, record.byte2, record.byte3) = (0xFF, byte, byte),
     }
+}
+
+/// Refusal 2 by edition 2's word alone.
+pub fn spoil_spare(rng: &mut Dice, record: &mut Record) {
+    record.spare = rng.pick(&[1, 1 << 8, 1 << 20, 1 << 31, u32::MAX]);
+}
+
+pub fn spoil_separation(rng: &mut Dice, record: &mut Record) {
+    let far = rng.pick(&[MOST_SEPARATION + 1, 1 << 31, u32::MAX]);
+    rng.put(&mut record.separations, far);
 }
 
 fn spoil_coordinate(rng: &mut Dice, record: &mut Record) {

@@ -1,6 +1,6 @@
 //! Cheap queries with their answers, as plain numbers for a checker that reads text.
 
-use super::bad::refused;
+use super::bad::{refused, spoil_separation, spoil_spare};
 use super::degenerate::degenerate;
 use super::dice::Dice;
 use super::shapes::{extreme, full, tiny};
@@ -41,14 +41,19 @@ fn fields(words: usize, record: &Record) -> Vec<i64> {
     fields
 }
 
-/// Refusals 1 to 6, 7, or both.
+/// Refusals 1 to 6, 7, or both; edition 2's own places by themselves too.
 fn refused_query(rng: &mut Dice) -> (usize, Record) {
     let bad_words = rng.pick(&[0, 1, MOST_WORDS + 1]);
-    match rng.below(4) {
-        0 => (bad_words, cheap(rng).0),
-        1 => (bad_words, refused(rng)),
-        _ => (rng.pick(&[2, 64, 4096, MOST_WORDS]), refused(rng)),
+    let good_words = rng.pick(&[2, 64, 4096, MOST_WORDS]);
+    let mut sound = cheap(rng).0;
+    match rng.below(6) {
+        0 => return (bad_words, sound),
+        1 => return (bad_words, refused(rng)),
+        2 => spoil_spare(rng, &mut sound),
+        3 => spoil_separation(rng, &mut sound),
+        _ => return (good_words, refused(rng)),
     }
+    (good_words, sound)
 }
 
 /// A cheap record and a queue, often one around its exact need.

@@ -1,6 +1,8 @@
 //! Records in few words, for the tests.
 #![allow(dead_code)]
 
+use second::file::{open, record_at};
+use second::gen::generate;
 use second::record::{Point, Record, EDGE_EDGE, VERTEX_FACE};
 use second::search::{search, Answer, Corner};
 
@@ -80,4 +82,15 @@ pub fn clear(count: u32) -> Answer {
 /// The answer with 4,096 words.
 pub fn ask(record: Record) -> Answer {
     search(&record, 4096)
+}
+
+/// The files of a flavour's first seeds.
+pub fn files(flavour: &str, seeds: u64) -> Vec<Vec<u8>> {
+    (0..seeds).map(|seed| generate(seed, flavour).unwrap()).collect()
+}
+
+/// The records of a file, refused ones too; none of a refused file.
+pub fn records(file: &[u8]) -> Vec<Record> {
+    let count = open(file).map_or(0, |opened| opened.count);
+    (0..count).map(|n| record_at(file, n).unwrap()).collect()
 }
