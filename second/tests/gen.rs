@@ -1,6 +1,9 @@
 //! The generators: what each flavour promises.
 
-use second::file::{fetch, open, record_at};
+mod common;
+
+use common::records;
+use second::file::{fetch, open};
 use second::gen::{flavours, generate, queries::queries, words::words};
 use second::record::Record;
 use second::refusals::Refusal;
@@ -10,12 +13,12 @@ use second::text::sweep;
 const SEEDS: u64 = 30;
 
 fn files(flavour: &str) -> Vec<Vec<u8>> {
-    (0..SEEDS).map(|seed| generate(seed, flavour).unwrap()).collect()
+    common::files(flavour, SEEDS)
 }
 
-fn records(file: &[u8]) -> Vec<Record> {
-    let count = open(file).map_or(0, |opened| opened.count);
-    (0..count).map(|n| record_at(file, n).unwrap()).collect()
+/// The flavours of these names in both editions.
+fn both(names: &[&str]) -> Vec<String> {
+    names.iter().flat_map(|name| [name.to_string(), format!("{name}2")]).collect()
 }
 
 /// The numbers 8 to 12 that opening the files of a flavour gives, 0 for an opened one.
@@ -43,8 +46,8 @@ fn seed_and_flavour_decide_the_file() {
 
 #[test]
 fn shapes_are_valid_files_of_valid_records() {
-    for flavour in ["tiny", "full", "degenerate", "extreme", "budget", "queue"] {
-        for file in files(flavour) {
+    for flavour in both(&["tiny", "full", "degenerate", "extreme", "budget", "queue"]) {
+        for file in files(&flavour) {
             let count = open(&file).unwrap().count;
             assert!((10..=40).contains(&count));
             assert!((0..count).all(|n| fetch(&file, n).is_ok()));
@@ -55,8 +58,8 @@ fn shapes_are_valid_files_of_valid_records() {
 #[test]
 fn shapes_bring_every_word_but_floor() {
     let mut seen = [0; 3];
-    for flavour in ["tiny", "full", "degenerate", "extreme"] {
-        for record in files(flavour).iter().flat_map(|file| records(file)) {
+    for flavour in both(&["tiny", "full", "degenerate", "extreme"]) {
+        for record in files(&flavour).iter().flat_map(|file| records(file)) {
             match search(&record, 4096) {
                 Answer::Met(_) => seen[0] += 1,
                 Answer::Clear { .. } => seen[1] += 1,
@@ -67,26 +70,28 @@ fn shapes_bring_every_word_but_floor() {
         assert!(seen.iter().all(|number| *number >= 20), "{flavour} {seen:?}");
         seen = [0; 3];
     }
-    let queue = files("queue");
-    assert!(queue.iter().flat_map(|file| records(file)).any(|r| is_room(search(&r, 4096))));
+    for queue in both(&["queue"]).iter().map(|name| files(name)) {
+        assert!(queue.iter().flat_map(|file| records(file)).any(|r| is_room(search(&r, 4096))));
+    }
 }
 
 #[test]
 fn budgets_stand_on_both_sides_of_an_answer() {
     let mut turns = 0;
-    for file in files("budget") {
+    for file in both(&["budget"]).iter().flat_map(|name| files(name)) {
         for pair in records(&file).windows(2) {
             let spent = |record| matches!(search(record, 4096), Answer::Spent(_));
             let next = Record { budget: pair[0].budget + 1, id: pair[1].id, ..pair[0] };
             turns += usize::from(next == pair[1] && spent(&pair[0]) && !spent(&pair[1]));
         }
     }
-    assert!(turns >= SEEDS as usize, "{turns}");
+    assert!(turns >= 2 * SEEDS as usize, "{turns}");
 }
 
 #[test]
 fn peak_is_the_exact_need_of_the_queue() {
-    for record in files("queue").iter().flat_map(|file| records(file)) {
+    let queues = both(&["queue"]).into_iter().flat_map(|name| files(&name));
+    for record in queues.flat_map(|file| records(&file)) {
         let (answer, trace) = search_traced(&record, 1 << 20);
         assert!(trace.peak >= 2);
         assert_eq!(search(&record, 2 * trace.peak), answer);

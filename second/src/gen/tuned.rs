@@ -83,6 +83,10 @@ fn heavy(rng: &mut Dice) -> Record {
         }
         record = family(rng);
     }
+    // A separation of its own may reach the first corner, and then there is no second level.
+    while rng.is_two() && peak(&record) < 3 {
+        record = family(rng);
+    }
     record
 }
 
