@@ -5,7 +5,9 @@ mod common;
 use common::*;
 use second::edition::Edition::{One, Two};
 use second::file::file_of;
-use second::record::{Point, Record};
+use second::gap::{Motion, Q};
+use second::record::{Point, Record, VERTEX_FACE};
+use second::search::Answer;
 use second::text::sweep_any_length;
 
 /// 5 cm sideways, 40 cm under the gangway.
@@ -107,4 +109,35 @@ fn equal_separations_answer_as_edition_1_did() {
             assert_eq!(sweep_any_length(&file, 4096), text);
         }
     }
+}
+
+/// The earliest contact among the moments and places in sixteenths, over Q.
+fn sampled_contact(record: &Record) -> Option<i128> {
+    let motion = Motion::of(record);
+    let limits = record.separations.map(|d| i128::from(d) * Q * Q);
+    let parts = || (0..=16).map(|n| n * (Q / 16));
+    let outside = |u, v| record.kind == VERTEX_FACE && u + v > Q;
+    let touches = |t, u, v| {
+        let f = motion.f([t, u, v]);
+        !outside(u, v) && (0..3).all(|axis| f[axis].abs() <= limits[axis])
+    };
+    parts().find(|t| parts().any(|u| parts().any(|v| touches(*t, u, v))))
+}
+
+#[test]
+fn no_contact_comes_before_the_answered_time() {
+    let mut seen = [0; 2];
+    for file in ["tiny2", "degenerate2", "full2"].iter().flat_map(|name| files(name, 8)) {
+        for record in records(&file) {
+            let Some(contact) = sampled_contact(&record) else { continue };
+            match ask(record) {
+                Answer::Met(c) | Answer::Spent(c) | Answer::Room(c) => {
+                    assert!(i128::from(c.t) <= contact, "{record:?}");
+                    seen[usize::from(contact > 0)] += 1;
+                }
+                other => panic!("{other:?} {record:?}"),
+            }
+        }
+    }
+    assert!(seen.iter().all(|number| *number >= 40), "{seen:?}");
 }

@@ -43,6 +43,9 @@ fn right_library_passes_and_wrong_ones_are_reported() {
         reported::<11>(&cases),
         reported::<12>(&cases),
         reported::<13>(&cases),
+        reported::<14>(&cases),
+        reported::<15>(&cases),
+        reported::<16>(&cases),
     ];
     for (fault, reported) in FAULTS.iter().zip(found) {
         assert_eq!(reported, *fault != Fault::None, "{fault:?}");
@@ -59,6 +62,24 @@ fn tally_counts_what_was_compared() {
         assert!(text.contains(&format!(" {number}: ")), "{text}");
     }
     assert!(text.contains(" 13: ") && text.contains(" 14: "), "{text}");
+}
+
+#[test]
+fn tally_counts_the_queries_of_each_edition() {
+    let counted = |flavour: &str| {
+        let (mut calls, mut program) = (Tally::default(), Tally::default());
+        let case = Case::new(1, flavour).unwrap();
+        assert_eq!(compare(&library::<0>(), &case, &mut calls), Vec::<String>::new());
+        let sweep = self::program(&["sweep"]);
+        assert_eq!(process::compare(&sweep, &case, &mut program), Vec::<String>::new());
+        [calls, program].map(|tally| tally.to_string())
+    };
+    for text in counted("tiny") {
+        assert!(!text.contains("(edition 1: 0,") && text.contains(", edition 2: 0)"), "{text}");
+    }
+    for text in counted("tiny2") {
+        assert!(text.contains("(edition 1: 0,") && !text.contains(", edition 2: 0)"), "{text}");
+    }
 }
 
 /// The second program as a program, called so.

@@ -1,7 +1,9 @@
 //! A library with the proved one's functions, made from the second program, right or with one fault.
 
 use second::beside::Library;
-use second::file::{open, record_at};
+use second::edition::Edition;
+use second::file::{record_at, Opened};
+use second::refusals::Refusal;
 use second::search::search;
 use second::told::told;
 use std::slice::{from_raw_parts, from_raw_parts_mut};
@@ -22,9 +24,12 @@ pub enum Fault {
     SpaceBeforeIndex,
     IdOfTheFirst,
     CountUnwritten,
+    SeparationOfX,
+    SpareIgnored,
+    EditionOneAlone,
 }
 
-pub const FAULTS: [Fault; 14] = [
+pub const FAULTS: [Fault; 17] = [
     Fault::None,
     Fault::CountOneMore,
     Fault::ExcessOneLess,
@@ -39,6 +44,9 @@ pub const FAULTS: [Fault; 14] = [
     Fault::SpaceBeforeIndex,
     Fault::IdOfTheFirst,
     Fault::CountUnwritten,
+    Fault::SeparationOfX,
+    Fault::SpareIgnored,
+    Fault::EditionOneAlone,
 ];
 
 /// The library with fault number N of the list.
@@ -48,7 +56,12 @@ pub fn library<const N: usize>() -> Library {
 
 /// The eight numbers of record n, with the fault.
 fn record(fault: Fault, file: &[u8], n: u32, words: usize) -> [u32; 8] {
-    let record = record_at(file, n).unwrap();
+    let mut record = record_at(file, n).unwrap();
+    match fault {
+        Fault::SeparationOfX => record.separations = [record.separations[0]; 3],
+        Fault::SpareIgnored => record.spare = 0,
+        _ => {}
+    }
     let mut numbers = [record.id; 8];
     numbers[1..].copy_from_slice(&told(&search(&record, words)));
     match fault {
@@ -58,6 +71,15 @@ fn record(fault: Fault, file: &[u8], n: u32, words: usize) -> [u32; 8] {
         _ => {}
     }
     numbers
+}
+
+/// The file opened, with the fault.
+fn open(fault: Fault, file: &[u8]) -> Result<Opened, Refusal> {
+    let opened = second::file::open(file)?;
+    if fault == Fault::EditionOneAlone && opened.edition == Edition::Two {
+        return Err(Refusal::Edition);
+    }
+    Ok(opened)
 }
 
 fn number(fault: Fault, number: u32) -> u32 {
@@ -90,7 +112,7 @@ unsafe extern "C" fn answers<const N: usize>(
 ) -> u32 {
     let (fault, file) = (FAULTS[N], from_raw_parts(file, file_len));
     let told = from_raw_parts_mut(told, lent);
-    let opened = match open(file) {
+    let opened = match open(fault, file) {
         Ok(opened) => opened,
         Err(refusal) => return number(fault, refusal.number()),
     };
@@ -128,7 +150,7 @@ unsafe extern "C" fn answer<const N: usize>(
     lent: usize,
 ) -> u32 {
     let (fault, file) = (FAULTS[N], from_raw_parts(file, file_len));
-    let opened = match open(file) {
+    let opened = match open(fault, file) {
         Ok(opened) => opened,
         Err(refusal) => return number(fault, refusal.number()),
     };
@@ -155,7 +177,7 @@ unsafe extern "C" fn count<const N: usize>(
     lent: usize,
 ) -> u32 {
     let fault = FAULTS[N];
-    match open(from_raw_parts(file, file_len)) {
+    match open(fault, from_raw_parts(file, file_len)) {
         Err(refusal) => number(fault, refusal.number()),
         Ok(_) if lent == 0 => 14,
         Ok(opened) => {
