@@ -1,6 +1,6 @@
 //! The library under test, called with dirty buffers of every length.
 
-use super::buffers::{After, Lent};
+use super::buffers::{After, Lent, Shifted};
 use super::expected::{answered, Expected, TOLD};
 use super::tally::Tally;
 use super::{Case, LONG};
@@ -14,6 +14,10 @@ pub type OneAnswer =
     unsafe extern "C" fn(*const u8, usize, usize, *mut u64, usize, *mut u32, usize) -> u32;
 /// File, count.
 pub type Count = unsafe extern "C" fn(*const u8, usize, *mut u32, usize) -> u32;
+/// File, number of the record, edition, buffer, place.
+pub type Copied = unsafe extern "C" fn(*const u8, usize, usize, u8, *mut u8, usize, usize) -> u32;
+/// Buffer, place, edition, count.
+pub type Trailer = unsafe extern "C" fn(*mut u8, usize, usize, u8, u32) -> u32;
 
 /// The C functions under test.
 #[derive(Clone, Copy)]
@@ -21,6 +25,8 @@ pub struct Library {
     pub answer: OneAnswer,
     pub answers: Answers,
     pub count: Count,
+    pub copy: Copied,
+    pub trailer: Trailer,
 }
 
 impl Library {
@@ -46,14 +52,23 @@ impl Library {
         // Sound: as above.
         unsafe { (self.count)(file.as_ptr(), file.len(), count.as_mut_ptr(), count.len()) }
     }
+
+    pub fn copy(&self, file: &[u8], n: usize, edition: u8, out: &mut [u8], at: usize) -> u32 {
+        let (lent, out) = (out.len(), out.as_mut_ptr());
+        // Sound: as above; the place may be any number.
+        unsafe { (self.copy)(file.as_ptr(), file.len(), n, edition, out, lent, at) }
+    }
+
+    pub fn trailer(&self, out: &mut [u8], at: usize, edition: u8, count: u32) -> u32 {
+        // Sound: as above.
+        unsafe { (self.trailer)(out.as_mut_ptr(), out.len(), at, edition, count) }
+    }
 }
 
 /// The calls of one case.
 pub struct Caller<'a> {
     library: &'a Library,
-    /// The file's bytes, from an address of any alignment.
-    shifted: Vec<u8>,
-    shift: usize,
+    file: Shifted,
     edition: Edition,
     tally: &'a mut Tally,
     rng: Rng,
@@ -63,14 +78,9 @@ pub struct Caller<'a> {
 impl<'a> Caller<'a> {
     pub fn new(library: &'a Library, case: &'a Case, tally: &'a mut Tally) -> Caller<'a> {
         let mut rng = Rng::new(case.seed, "calls");
-        let shift = rng.below(8);
-        let shifted = [vec![0; shift], case.file.clone()].concat();
+        let file = Shifted::new(&mut rng, &case.file);
         let edition = case.edition();
-        Caller { library, shifted, shift, edition, tally, rng, differences: Vec::new() }
-    }
-
-    fn file(&self) -> &[u8] {
-        &self.shifted[self.shift..]
+        Caller { library, file, edition, tally, rng, differences: Vec::new() }
     }
 
     /// The whole file: room enough, some room beyond it, and one word too few.
@@ -88,7 +98,7 @@ impl<'a> Caller<'a> {
     fn all(&mut self, words: usize, lent: usize, expected: &Expected) {
         let call = format!("taperhive_answers, {words} words, told of {lent}");
         let (mut queue, mut told) = self.lend(words, lent);
-        let code = self.library.answers(self.file(), queue.slice(), told.slice());
+        let code = self.library.answers(self.file.bytes(), queue.slice(), told.slice());
         let must = expected.all(lent);
         let flat = must.as_ref().map(|records| records.concat()).map_err(|number| *number);
         let any = must.as_ref().is_ok_and(|records| records.iter().any(answered));
@@ -119,7 +129,7 @@ impl<'a> Caller<'a> {
     fn one(&mut self, n: usize, words: usize, lent: usize, expected: &Expected) {
         let call = format!("taperhive_answer, record {n}, {words} words, told of {lent}");
         let (mut queue, mut told) = self.lend(words, lent);
-        let code = self.library.answer(self.file(), n, queue.slice(), told.slice());
+        let code = self.library.answer(self.file.bytes(), n, queue.slice(), told.slice());
         let must = expected.one(n, lent);
         if let Ok(told) = &must {
             self.tally.told(self.edition, told);
@@ -130,10 +140,10 @@ impl<'a> Caller<'a> {
 
     /// How many records the file has, with room for that number and with none.
     pub fn count(&mut self) {
-        let expected = Expected::of(self.file(), 0);
+        let expected = Expected::of(self.file.bytes(), 0);
         for lent in [1, 2, 0] {
             let mut count: Lent<u32> = Lent::new(self.rng.draw(), lent);
-            let code = self.library.count(self.file(), count.slice());
+            let code = self.library.count(self.file.bytes(), count.slice());
             let number = [expected.count() as u32];
             let must = match expected.records {
                 Err(number) => Err(number),

@@ -21,8 +21,24 @@ extern "C" {
         told_len: usize,
     ) -> u32;
     fn taperhive_count(file: *const u8, file_len: usize, count: *mut u32, count_len: usize) -> u32;
+    fn taperhive_copy(
+        file: *const u8,
+        file_len: usize,
+        n: usize,
+        edition: u8,
+        out: *mut u8,
+        out_len: usize,
+        at: usize,
+    ) -> u32;
+    fn taperhive_trailer(out: *mut u8, out_len: usize, at: usize, edition: u8, count: u32) -> u32;
 }
 
 pub fn library() -> Library {
-    Library { answer: taperhive_answer, answers: taperhive_answers, count: taperhive_count }
+    Library {
+        answer: taperhive_answer,
+        answers: taperhive_answers,
+        count: taperhive_count,
+        copy: taperhive_copy,
+        trailer: taperhive_trailer,
+    }
 }

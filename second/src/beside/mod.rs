@@ -5,10 +5,12 @@ mod expected;
 mod library;
 #[cfg(feature = "beside")]
 pub mod linked;
+mod places;
 pub mod process;
 pub mod report;
 pub mod tally;
 pub mod walk;
+pub mod writing;
 
 pub use expected::Expected;
 pub use library::Library;
@@ -76,5 +78,7 @@ pub fn compare(library: &Library, case: &Case, tally: &mut Tally) -> Vec<String>
         caller.single_answers(*words, &expected);
         last = Some(expected);
     }
-    caller.differences
+    let mut differences = caller.differences;
+    differences.extend(writing::compare(library, case, tally));
+    differences
 }

@@ -14,9 +14,14 @@ pub struct Tally {
     /// Records compared, of edition 1 and of edition 2.
     queries: [u64; 2],
     boxes: u64,
+    /// Calls that write a record, and that write a trailer.
+    copies: u64,
+    trailers: u64,
+    /// Whole files written by such calls.
+    written: u64,
     /// Answers by word, refused records first.
     words: [u64; 6],
-    /// Refusals by number: 1 to 7 of records, 8 to 15 of calls and programs.
+    /// Refusals by number: 1 to 7 of records, 8 to 15 of calls and programs; a copy's are any of 1 to 14.
     refusals: [u64; 16],
 }
 
@@ -33,6 +38,22 @@ impl Tally {
         if let Some(number) = refusal {
             self.refusals[number as usize] += 1;
         }
+    }
+
+    /// A call that writes a record, and the number that refuses it, or 0.
+    pub fn copy(&mut self, number: u32) {
+        self.copies += 1;
+        self.call((number != 0).then_some(number));
+    }
+
+    /// The same of a trailer.
+    pub fn trailer(&mut self, number: u32) {
+        self.trailers += 1;
+        self.call((number != 0).then_some(number));
+    }
+
+    pub fn written(&mut self) {
+        self.written += 1;
     }
 
     /// What must be told of a record of a file of this edition.
@@ -74,6 +95,10 @@ impl fmt::Display for Tally {
         write!(f, "; refusals by number")?;
         for (n, number) in self.refusals.iter().enumerate().filter(|(_, number)| **number > 0) {
             write!(f, " {n}: {number}")?;
+        }
+        let Tally { copies, trailers, written, .. } = self;
+        if copies + trailers > 0 {
+            write!(f, "; {copies} copies, {trailers} trailers, {written} files written")?;
         }
         write!(f, "; {differing} files differ")
     }

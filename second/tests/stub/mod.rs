@@ -1,4 +1,7 @@
 //! A library with the proved one's functions, made from the second program, right or with one fault.
+#![allow(dead_code)]
+
+pub mod writing;
 
 use second::beside::Library;
 use second::edition::Edition;
@@ -51,7 +54,13 @@ pub const FAULTS: [Fault; 17] = [
 
 /// The library with fault number N of the list.
 pub fn library<const N: usize>() -> Library {
-    Library { answer: answer::<N>, answers: answers::<N>, count: count::<N> }
+    let (copy, trailer) = (writing::copy::<0>, writing::trailer::<0>);
+    Library { answer: answer::<N>, answers: answers::<N>, count: count::<N>, copy, trailer }
+}
+
+/// The library with fault number N of the writers' list.
+pub fn writing_library<const N: usize>() -> Library {
+    Library { copy: writing::copy::<N>, trailer: writing::trailer::<N>, ..library::<0>() }
 }
 
 /// The eight numbers of record n, with the fault.

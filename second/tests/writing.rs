@@ -1,0 +1,108 @@
+//! The comparison of the writers: right ones pass, every wrong one is reported.
+
+mod stub;
+
+use second::beside::{compare, tally::Tally, writing, Case};
+use second::gen::{flavours, generate};
+use stub::writing::{Fault, FAULTS};
+use stub::{library, writing_library};
+
+/// A file alone: the writers need no queue.
+fn case(seed: u64, flavour: &'static str) -> Case {
+    let file = generate(seed, flavour).unwrap();
+    Case { seed, flavour, file, words: Vec::new() }
+}
+
+fn cases() -> Vec<Case> {
+    let both = |flavour| [1, 2].map(|seed| case(seed, flavour));
+    flavours().into_iter().flat_map(both).collect()
+}
+
+/// What differs in the writing of a case with fault N.
+fn differences<const N: usize>(case: &Case) -> Vec<String> {
+    writing::compare(&writing_library::<N>(), case, &mut Tally::default())
+}
+
+/// So many differing cases are no luck.
+const ENOUGH: usize = 4;
+
+/// How many of the cases differ; no more than enough are looked for.
+fn reported<const N: usize>(cases: &[Case]) -> usize {
+    cases.iter().filter(|case| !differences::<N>(case).is_empty()).take(ENOUGH).count()
+}
+
+macro_rules! each {
+    ($cases:expr, $($n:literal)*) => { [$(reported::<$n>($cases)),*] };
+}
+
+#[test]
+fn right_writers_pass_and_wrong_ones_are_reported() {
+    let cases = cases();
+    let found = each!(&cases,
+        0 1 2 3 4 5 6 7 8 9 10 11 12 13 14 15 16 17 18 19
+        20 21 22 23 24 25 26 27 28 29 30 31 32 33 34 35);
+    assert_eq!(found.len(), FAULTS.len());
+    for (fault, number) in FAULTS.iter().zip(found) {
+        let must = if *fault == Fault::None { 0 } else { ENOUGH };
+        assert_eq!(number, must, "{fault:?}");
+    }
+}
+
+#[test]
+fn faults_stand_in_the_list_where_the_tests_expect_them() {
+    assert_eq!([FAULTS[1], FAULTS[4]], [Fault::ByteBeyond, Fault::SpaceOneByteLate]);
+    assert_eq!([FAULTS[9], FAULTS[24]], [Fault::LayoutOfEditionOne, Fault::TrailerOfAnotherCount]);
+}
+
+#[test]
+fn whole_comparison_writes_too() {
+    let case = Case::new(1, "one2").unwrap();
+    let differences = |library| compare(&library, &case, &mut Tally::default());
+    assert_eq!(differences(library::<0>()), Vec::<String>::new());
+    let found = differences(writing_library::<1>());
+    assert!(!found.is_empty() && found.iter().all(|line| line.contains("the buffer's byte")));
+    assert!(found.iter().any(|line| line.starts_with("taperhive_copy, record 0, edition 2, ")));
+}
+
+#[test]
+fn space_that_is_missed_is_said_with_its_place() {
+    let found = differences::<4>(&case(1, "one"));
+    let line = "taperhive_copy, record 0, edition 1, Room { length: 115, at: 0 }: ";
+    assert!(found.contains(&format!("{line}returned 0 and must return 14")), "{found:?}");
+    assert!(found.iter().any(|text| text.starts_with(&format!("{line}the buffer's byte "))));
+}
+
+#[test]
+fn files_written_must_read_as_the_records_copied() {
+    let unread = |found: Vec<String>| {
+        let unread = "it does not read as the records copied";
+        found.into_iter().filter(|line| line.ends_with(unread)).collect::<Vec<_>>()
+    };
+    for flavour in ["tiny", "tiny2", "leading2"] {
+        let case = case(1, flavour);
+        assert_eq!(unread(differences::<0>(&case)).len(), 0);
+        // Edition 2 alone has the wrong layout; both have the wrong trailer.
+        let found = unread(differences::<9>(&case));
+        assert_eq!(found.len(), 1, "{flavour}");
+        assert!(found[0].starts_with("a file of edition 2 written from byte "), "{found:?}");
+        assert_eq!(unread(differences::<24>(&case)).len(), 2, "{flavour}");
+    }
+}
+
+#[test]
+fn tally_counts_copies_trailers_and_refusals() {
+    let mut tally = Tally::default();
+    assert!(!tally.to_string().contains(" copies, "));
+    for case in cases() {
+        assert_eq!(writing::compare(&library::<0>(), &case, &mut tally), Vec::<String>::new());
+    }
+    let text = tally.to_string();
+    for number in (1..=14).filter(|number| *number != 7) {
+        assert!(text.contains(&format!(" {number}: ")), "{text}");
+    }
+    let files = 2 * cases().len();
+    assert!(text.contains(&format!(" trailers, {files} files written; ")), "{text}");
+    let copies = text.split(" copies, ").next().unwrap().rsplit(' ').next().unwrap();
+    // The records of the largest files alone are as many.
+    assert!(copies.parse::<usize>().unwrap() > 4 * 2 * 4096, "{text}");
+}
