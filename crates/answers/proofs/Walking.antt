@@ -11,31 +11,30 @@ use Rattle.rules.specs.declared.Answer.{Answer}
 use Rattle.rules.specs.declared.Answer.the-variants.{Met, Clear, Spent, Room, Floor, Refused}
 use Rattle.rules.specs.Answers.{told, queueAfter}
 use Rattle.rules.specs.Search.{search}
-use Rattle.rules.specs.QueryFile.{isWide, sizeBy, recordSize, recordAt, editionOf, put, trailerPlace, backPointer, recordCount, placeOf}
+use Rattle.rules.specs.QueryFile.{isWide, recordSize, recordAt, editionOf, put, trailerPlace, backPointer, recordCount, placeOf}
 use Rattle.little.specs.Put.{put-nil, length-put, one-more}
+use Rattle.queries.specs.Sizes.{size-zero, size-suc}
 use Rattle.answers.specs.Eight.{eight}
 use Rattle.answers.specs.Walk.{tells, tellsFrom, queueFrom}
 use Rattle.search.specs.Levels.{Clean}
 use Rattle.answers.specs.Step.{isAnswered, Answered}
 
 -- the place of record i behind the first
-next-place : (wide : Bool) (at n : ℕ) → at + sizeBy wide + sizeBy wide * n ≡ at + sizeBy wide * suc n
-next-place true at n = omega arith
-next-place false at n = omega arith
+next-place : (edition at n : ℕ) → at + recordSize edition + recordSize edition * n ≡ at + recordSize edition * suc n
+next-place edition at n = omega (arith, size-suc (isWide edition) n)
 
-first-place : (wide : Bool) (at : ℕ) → at ≡ at + sizeBy wide * 0
-first-place true at = omega arith
-first-place false at = omega arith
+first-place : (edition at : ℕ) → at ≡ at + recordSize edition * 0
+first-place edition at = omega (arith, size-zero (isWide edition))
 
 pub tells-more : (edition : ℕ) (s : List ℕ) (words n at : ℕ) → tellsFrom edition s words (suc n) at ≡ tellsFrom edition s words n at ++ tells (recordAt edition s (at + recordSize edition * n)) words
 unfolding tellsFrom
 tells-more edition s words zero at =
-    let e = first-place (isWide edition) at in
+    let e = first-place edition at in
     append-nil (tells (recordAt edition s at) words) ∙ ap (λ (k : ℕ). tells (recordAt edition s k) words) e
 tells-more edition s words (suc n) at =
     ap (λ (l : List ℕ). tells (recordAt edition s at) words ++ l) (tells-more edition s words n (at + recordSize edition))
     ∙ sym (append-assoc (tells (recordAt edition s at) words) (tellsFrom edition s words n (at + recordSize edition)) (tells (recordAt edition s (at + recordSize edition + recordSize edition * n)) words))
-    ∙ ap (λ (k : ℕ). tells (recordAt edition s at) words ++ tellsFrom edition s words n (at + recordSize edition) ++ tells (recordAt edition s k) words) (next-place (isWide edition) at n)
+    ∙ ap (λ (k : ℕ). tells (recordAt edition s at) words ++ tellsFrom edition s words n (at + recordSize edition) ++ tells (recordAt edition s k) words) (next-place edition at n)
 
 pub length-tells : (edition : ℕ) (s : List ℕ) (words n at : ℕ) → length (tellsFrom edition s words n at) ≡ 8 * n
 unfolding tellsFrom tells
@@ -47,12 +46,12 @@ pub queue-more : (edition : ℕ) (s : List ℕ) (n at : ℕ) (queue : List ℕ)
     → queueFrom edition s (suc n) at queue ≡ queueAfter (search (recordAt edition s (at + recordSize edition * n)) (length (queueFrom edition s n at queue))) (queueFrom edition s n at queue)
 unfolding queueFrom
 queue-more edition s zero at queue =
-    let e = first-place (isWide edition) at in
+    let e = first-place edition at in
     ap (λ (k : ℕ). queueAfter (search (recordAt edition s k) (length queue)) queue) e
 queue-more edition s (suc n) at queue =
     let q = queueAfter (search (recordAt edition s at) (length queue)) queue in
     queue-more edition s n (at + recordSize edition) q
-    ∙ ap (λ (k : ℕ). queueAfter (search (recordAt edition s k) (length (queueFrom edition s n (at + recordSize edition) q))) (queueFrom edition s n (at + recordSize edition) q)) (next-place (isWide edition) at n)
+    ∙ ap (λ (k : ℕ). queueAfter (search (recordAt edition s k) (length (queueFrom edition s n (at + recordSize edition) q))) (queueFrom edition s n (at + recordSize edition) q)) (next-place edition at n)
 
 -- no answer changes how many words there are
 pub length-after : (a : Answer) (queue : List ℕ) → length (queueAfter a queue) ≡ length queue
@@ -77,11 +76,6 @@ clean-after (Clear count) clean queue h = λ _. zeros queue
 clean-after (Spent t u v excess count) clean queue h = λ _. zeros queue
 clean-after (Room t u v excess count) clean queue h = λ _. zeros queue
 clean-after (Floor t u v excess count) clean queue h = λ _. zeros queue
-
--- record i of so many stands within them
-pub record-in : (wide : Bool) (first count i n : ℕ) → i < count → first + sizeBy wide * count ≤ n → first + sizeBy wide * i + sizeBy wide ≤ n
-record-in true first count i n h k = omega arith
-record-in false first count i n h k = omega arith
 
 -- ---- the walk: i records are told, and the queue is as they leave it
 pub record Walked (edition : ℕ) (s : List ℕ) (first count : ℕ) (queue₀ out₀ queue out : List ℕ) (clean : Bool) (i : ℕ) : Type 0 where
@@ -149,7 +143,7 @@ at-place {edition = edition} {place = place} {queue = queue} {queue′ = queue�
 -- so many records from a place on are all of the file's
 module _ (s : List ℕ) {edition place n : ℕ} (d : edition ≡ editionOf s) (e : place ≡ trailerPlace s - backPointer s) (k : n ≡ recordCount s) where
   start : place ≡ placeOf s 0
-  start = e ∙ first-place (isWide (editionOf s)) (trailerPlace s - backPointer s)
+  start = e ∙ first-place (editionOf s) (trailerPlace s - backPointer s)
 
   pub tells-place : (words : ℕ) → tellsFrom edition s words n place ≡ tellsFrom (editionOf s) s words (recordCount s) (placeOf s 0)
   tells-place words = λ i. tellsFrom (d i) s words (k i) (start i)

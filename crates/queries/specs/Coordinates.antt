@@ -1,15 +1,19 @@
--- Laws of `coordinatesAt` and `coordinateBytes`: one coordinate more at the end, as a loop adds it.
+-- Laws of `coordinatesAt` and `coordinateBytes`: one coordinate more at the end, as a loop adds it; written and read back they are the same.
 -- Assumes nothing.
 use Prim.Native.Nat.{ℕ, zero, suc, _+_, _*_, _≤_, _<_}
 use mathlib.Core.Path.{_≡_, refl, sym, ap, _∙_}
 use mathlib.Core.List.{List, [], _∷_, _++_, append-assoc, append-nil}
+use native.Mathlib.Nat.{add-assoc}
 use native.Mathlib.Omega.{arith}
 use native.Mathlib.Numerals.{add-one}
 use lib.IntN.{ℤ, pos}
-use lib.ListN.{length, take, set, getD, length-append}
-use lib.Seq.{take-suc, take-suc-set, take-length, length-take-le}
+use lib.ListN.{length, take, drop, set, getD, length-append}
+use lib.Seq.{take-suc, take-suc-set, take-length, take-add, drop-drop, length-take-le}
+use mir.Syntax.{w32}
+use mir.Val.{SFits}
 use Rattle.little.specs.Put.{put-put, length-put}
-use Rattle.little.specs.Word.{length-word}
+use Rattle.little.specs.Word.{Bytes, length-word, word-drop, word-back, word-lt, word-same}
+use Rattle.little.specs.Signed.{signed-bits, signed-fits, bits-signed, bits-below}
 use Rattle.rules.specs.QueryFile.{word, wordBytes, signed, bits, coordinatesAt, coordinateBytes, put}
 
 pub coords-more : (s : List ℕ) (at n : ℕ) → coordinatesAt s at (suc n) ≡ coordinatesAt s at n ++ (signed (word s (at + 4 * n)) ∷ [])
@@ -57,3 +61,44 @@ module _ (s₀ : List ℕ) (at : ℕ) (p : List ℤ) (i : ℕ) (room : at + 4 * 
       ∙ put-put s₀ at (coordinateBytes (take i p)) (omega arith) (wordBytes (bits z))
       ∙ ap (λ (l : List ℕ). put s₀ at l)
       (sym (bytes-more (take i p) z) ∙ ap (λ (x : ℤ). coordinateBytes (take i p ++ (x ∷ []))) ez ∙ ap coordinateBytes (sym (take-suc p i (pos 0) h) ∙ ap (λ (k : ℕ). take k p) (sym (add-one i))))
+
+-- ---- written and read back, read and written back
+pub coordinates-drop : (n : ℕ) (s : List ℕ) (at k : ℕ) → coordinatesAt (drop at s) k n ≡ coordinatesAt s (at + k) n
+unfolding coordinatesAt
+coordinates-drop zero s at k = refl
+coordinates-drop (suc n) s at k =
+    rw (word-drop s at k, coordinates-drop n s at (k + 4), ← add-assoc at k 4)
+
+-- each number is one that 32 bits hold
+abbrev pub Each : List ℤ → Type 0
+Each [] = Unit {0}
+Each (z ∷ zs) = SFits w32 z × Each zs
+
+drop-word : (n : ℕ) (xs ys : List ℕ) → drop 4 (wordBytes n ++ xs ++ ys) ≡ xs ++ ys
+unfolding wordBytes
+drop-word n xs ys = refl
+
+pub coordinates-back : (zs : List ℤ) (t : List ℕ) → Each zs → coordinatesAt (coordinateBytes zs ++ t) 0 (length zs) ≡ zs
+unfolding coordinatesAt coordinateBytes
+coordinates-back [] t h = refl
+coordinates-back (z ∷ zs) t h =
+    let l = wordBytes (bits z) ++ coordinateBytes zs ++ t in
+    let e : word l 0 ≡ bits z =
+    ap (λ (x : List ℕ). word x 0) (append-assoc (wordBytes (bits z)) (coordinateBytes zs) t) ∙ word-back (bits z) (coordinateBytes zs ++ t) (bits-below z (h .0)) in
+    let r : coordinatesAt l 4 (length zs) ≡ zs =
+    sym (coordinates-drop (length zs) l 4 0)
+    ∙ ap (λ (x : List ℕ). coordinatesAt x 0 (length zs)) (drop-word (bits z) (coordinateBytes zs) t)
+    ∙ coordinates-back zs t (h .1) in
+    rw (e, r, signed-bits z (h .0))
+
+pub coordinates-same : (n : ℕ) (s : List ℕ) (at : ℕ) → Bytes s → at + 4 * n ≤ length s → coordinateBytes (coordinatesAt s at n) ≡ take (4 * n) (drop at s)
+unfolding coordinatesAt coordinateBytes
+coordinates-same zero s at b h = refl
+coordinates-same (suc n) s at b h =
+    let e : 4 * suc n ≡ 4 + 4 * n = omega arith in
+    rw (e, take-add 4 (4 * n) (drop at s), drop-drop 4 at s, bits-signed (word s at) (word-lt s b at), word-same s b at (omega arith), coordinates-same n s (at + 4) b (omega arith))
+
+pub each-read : (n : ℕ) (s : List ℕ) (at : ℕ) → Bytes s → (length (coordinatesAt s at n) ≡ n) × Each (coordinatesAt s at n)
+unfolding coordinatesAt
+each-read zero s at b = (refl, tt)
+each-read (suc n) s at b = let h = each-read n s (at + 4) b in (ap suc (h .0), (signed-fits (word s at) (word-lt s b at), h .1))

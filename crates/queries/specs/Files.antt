@@ -17,9 +17,10 @@ use Rattle.rules.specs.declared.Record.{Record}
 use Rattle.rules.specs.declared.Form.{Form}
 use Rattle.rules.specs.declared.Opened.the-variants.{Records}
 use Rattle.rules.specs.Refusals.{first, recordRefusal}
-use Rattle.rules.specs.QueryFile.{word, wordBytes, stands, isEdition, isWide, sizeBy, recordSize, recordAt, recordBytes, queryForm, editionOf, fileForm, editionBytes, trailerBytes, recordsBytes, fileBytes, openRefusal, openUnless, opened, noRecord, fetchUnless, fetched, put}
+use Rattle.rules.specs.QueryFile.{word, wordBytes, stands, isEdition, isWide, recordSize, recordAt, recordBytes, queryForm, editionOf, fileForm, editionBytes, trailerBytes, recordsBytes, fileBytes, openRefusal, openUnless, opened, noRecord, fetchUnless, fetched, put}
 use Rattle.little.specs.Word.{length-word, word-at}
 use Rattle.little.specs.Stands.{stands-there}
+use Rattle.queries.specs.Sizes.{size-zero, size-suc, few-size}
 use Rattle.queries.specs.Opening.{Holds, opened-records, reach-index, reach-good}
 use Rattle.queries.specs.RoundTrip.{Held, length-record, record-drop, front}
 
@@ -85,21 +86,13 @@ abbrev pub AllHeld : ℕ → List Record → Type 0
 AllHeld edition [] = Unit {0}
 AllHeld edition (r ∷ rs) = Held (isWide edition) r × AllHeld edition rs
 
-next : (wide : Bool) (n : ℕ) → sizeBy wide + sizeBy wide * n ≡ sizeBy wide * suc n
-next true n = omega arith
-next false n = omega arith
-
-none : (wide : Bool) → 0 ≡ sizeBy wide * 0
-none true = refl
-none false = refl
-
 pub length-records : (edition : ℕ) (rs : List Record) → AllHeld edition rs → length (recordsBytes edition rs) ≡ recordSize edition * length rs
 unfolding recordsBytes
-length-records edition [] h = none (isWide edition)
+length-records edition [] h = sym (size-zero (isWide edition))
 length-records edition (r ∷ rs) h =
     length-append (recordBytes edition r) (recordsBytes edition rs)
     ∙ (λ i. length-record (isWide edition) r (h .0) i + length-records edition rs (h .1) i)
-    ∙ next (isWide edition) (length rs)
+    ∙ sym (size-suc (isWide edition) (length rs))
 
 -- record k stands behind k records
 pub record-in : (edition : ℕ) (rs : List Record) (k : ℕ) (before rest : List ℕ) → AllHeld edition rs → k < length rs
@@ -110,7 +103,7 @@ record-in edition (r ∷ rs) zero before rest h l =
     let bytes = recordsBytes edition rs in
     let s = before ++ (recordBytes edition r ++ bytes) ++ rest in
     let e : s ≡ before ++ (recordBytes edition r ++ (bytes ++ rest)) = simp append-assoc in
-    let p : length before + recordSize edition * 0 ≡ length before = omega (arith, none (isWide edition)) in
+    let p : length before + recordSize edition * 0 ≡ length before = omega (arith, size-zero (isWide edition)) in
     ap (recordAt edition s) p
     ∙ sym (record-drop (isWide edition) s (length before))
     ∙ ap (λ (x : List ℕ). recordAt edition (drop (length before) x) 0) e
@@ -121,16 +114,12 @@ record-in edition (r ∷ rs) (suc k) before rest h l =
     let bytes = recordsBytes edition rs in
     let e : before ++ (one ++ bytes) ++ rest ≡ before ++ one ++ bytes ++ rest = simp append-assoc in
     let p : length before + recordSize edition * suc k ≡ length (before ++ one) + recordSize edition * k =
-    omega (arith, length-append before one, length-record (isWide edition) r (h .0), next (isWide edition) k) in
+    omega (arith, length-append before one, length-record (isWide edition) r (h .0), size-suc (isWide edition) k) in
     ap (λ (x : List ℕ). recordAt edition x (length before + recordSize edition * suc k)) e
     ∙ ap (recordAt edition (before ++ one ++ bytes ++ rest)) p
     ∙ record-in edition rs k (before ++ one) rest (h .1) (omega arith)
 
 -- ---- a file of them
-few-bytes : (wide : Bool) (n : ℕ) → n ≤ 4096 → sizeBy wide * n < 4294967296
-few-bytes true n h = omega arith
-few-bytes false n h = omega arith
-
 named : (edition : ℕ) → isEdition edition ≡ true → cond (isWide edition) 2 1 ≡ edition
 named edition e = go (eqb edition 1) (eqb edition 2) refl refl e
   where
@@ -159,7 +148,7 @@ module _ (edition : ℕ) (free : List ℕ) (rs : List Record) (is : isEdition ed
       let l : length before ≡ length free + size = omega (arith, length-append free (recordsBytes edition rs), length-records edition rs all) in
       let e : length before - size ≡ length free = omega arith in
       ap (λ (n : ℕ). opened (queryForm n) (fileBytes edition free rs)) file-edition
-      ∙ trailer-opens (queryForm edition) (length rs) refl before few (few-bytes (isWide edition) (length rs) few) (omega arith)
+      ∙ trailer-opens (queryForm edition) (length rs) refl before few (few-size (isWide edition) (length rs) few) (omega arith)
       ∙ ap (λ (p : ℕ). Records edition p (length rs)) e
 
   file-record : (k : ℕ) → k < length rs → recordAt edition (fileBytes edition free rs) (length free + recordSize edition * k) ≡ getD rs k noRecord

@@ -1,5 +1,6 @@
 -- The laws of the query file.
 pub mod Coordinates
+pub mod Sizes
 pub mod Opening
 pub mod Writing
 pub mod RoundTrip

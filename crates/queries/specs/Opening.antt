@@ -18,7 +18,8 @@ use Rattle.rules.specs.declared.Record.{Record}
 use Rattle.rules.specs.declared.Form.{Form}
 use Rattle.rules.specs.declared.Opened.the-variants.{Records, Refused}
 use Rattle.rules.specs.Refusals.{Case, first}
-use Rattle.rules.specs.QueryFile.{stands, isEdition, isWide, sizeBy, recordSize, editionBytes, fileForm, trailerPlace, backPointer, recordCount, openCases, openRefusal, openUnless, opened, reachRefusal, noRecord, fetchUnless}
+use Rattle.rules.specs.QueryFile.{stands, isEdition, isWide, recordSize, editionBytes, fileForm, trailerPlace, backPointer, recordCount, openCases, openRefusal, openUnless, opened, reachRefusal, noRecord, fetchUnless}
+use Rattle.queries.specs.Sizes.{record-within, short-size}
 use Rattle.refusals.specs.Cases.{orElse, first-then, not-due}
 
 -- a file is not refused 10 exactly when its edition is 1 or 2 and the three bytes behind that are zero
@@ -102,20 +103,11 @@ pub records-end : {s : List ℕ} {edition place n : ℕ} → Holds (fileForm s) 
 records-end {s} {edition} {place} {n} h = ap (λ (d : ℕ). place + recordSize d * n + 16) (h .names) ∙ h .ends
 
 pub record-fits : {s : List ℕ} {edition place n : ℕ} → Holds (fileForm s) s edition place n → (k : ℕ) → k < n → place + recordSize edition * k + recordSize edition ≤ length s
-record-fits {s} {edition} {place} {n} h k l =
-    go (isWide edition) (records-end h)
-  where
-    go : (wide : Bool) → place + sizeBy wide * n + 16 ≡ length s → place + sizeBy wide * k + sizeBy wide ≤ length s
-    go true e = omega arith
-    go false e = omega arith
+record-fits {s} {edition} {place} {n} h k l = record-within (isWide edition) place n k (length s) l (omega (arith, records-end h))
 
 -- 65,536 bytes hold no more than 564 records, of either edition
 pub few-records : {s : List ℕ} {edition place n : ℕ} → Holds (fileForm s) s edition place n → length s ≤ 65536 → n ≤ 564
-few-records {s} {edition} {place} {n} h short = go (isWide edition) (records-end h)
-  where
-    go : (wide : Bool) → place + sizeBy wide * n + 16 ≡ length s → n ≤ 564
-    go true e = omega arith
-    go false e = omega arith
+few-records {s} {edition} {place} {n} h short = short-size (isWide edition) n (omega (arith, records-end h))
 
 refused : (k d p m j : ℕ) → openUnless k d p m ≡ Refused j → (k ≡ j) × (j ≡ 0 → ⊥)
 unfolding openUnless

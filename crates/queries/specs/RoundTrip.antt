@@ -1,75 +1,41 @@
 -- A record written and read back is that record; the bytes of a record read and written back are those bytes.
 --     Held            what every `Record` of a program is, each field fitting its type, that an edition's record can say: a narrow one has one separation
 --     held            so is a record that is accepted, with an id of 32 bits and 24 coordinates; `read-held` one that stands in bytes
---     read-back       what was put is read as the record; `written-back` of a writer's buffer
+--     read-back       what was put is read as the record; `written-back` of a writer's buffer, whatever the record that it did not refuse
 --     write-back      to put the record that stands at a place there again changes nothing
 --     same-record     no two records have the same bytes
 -- All of either edition, by whether its record is wide. Assumes nothing.
-use Prim.Native.Nat.{ℕ, zero, suc, _+_, _*_, _≤_, _<_}
+use Prim.Native.Nat.{ℕ, suc, _+_, _*_, _≤_, _<_}
 use mathlib.Core.Path.{_≡_, refl, sym, ap, _∙_}
 use mathlib.Core.Bool.{Bool, true, false, not, _&&_, _||_, and-eq-true-iff}
 use mathlib.Core.List.{List, [], _∷_, _++_, append-assoc}
 use mathlib.Core.Logic.{⊎-elim}
-use native.Mathlib.Nat.{add-assoc, add-zero}
+use native.Mathlib.Nat.{add-zero}
 use native.Mathlib.Omega.{arith}
 use borrow.Author.Tests.{eqb-true}
 use lib.Dec.{eqb}
 use lib.IntN.{ℤ, pos, negsuc, natAbs}
 use lib.ListN.{length, getD, take, drop, length-drop}
-use lib.Seq.{getD-drop, drop-drop, take-add}
+use lib.Seq.{getD-drop, take-add}
 use mir.Syntax.{w32}
 use mir.Val.{SFits}
 use Rattle.rules.specs.declared.Record.{Record}
-use Rattle.rules.specs.QueryFile.{word, wordBytes, bits, coordinatesAt, coordinateBytes, isWide, sizeBy, recordSize, recordBy, recordAt, bytesBy, recordBytes, put, putUnless, writeRefusal}
+use Rattle.rules.specs.QueryFile.{word, wordBytes, coordinatesAt, coordinateBytes, isWide, sizeBy, recordSize, recordBy, recordAt, bytesBy, recordBytes, put, putUnless, writeRefusal}
 use Rattle.refusals.specs.Accepted.{Accepted}
 use Rattle.little.specs.Put.{drop-put, put-same}
-use Rattle.little.specs.Word.{Bytes, word-drop, word-back, word-at, word-lt, word-same, digits}
-use Rattle.little.specs.Signed.{signed-bits, signed-fits, bits-signed, bits-below}
-use Rattle.queries.specs.Coordinates.{length-bytes}
+use Rattle.little.specs.Word.{Bytes, word-drop, word-at, word-lt, word-same, digits}
+use Rattle.queries.specs.Coordinates.{length-bytes, coordinates-drop, Each, coordinates-back, coordinates-same, each-read}
 use Rattle.queries.specs.Writing.{WriteRoom, write-room}
 
--- ---- coordinates
-pub coordinates-drop : (n : ℕ) (s : List ℕ) (at k : ℕ) → coordinatesAt (drop at s) k n ≡ coordinatesAt s (at + k) n
-unfolding coordinatesAt
-coordinates-drop zero s at k = refl
-coordinates-drop (suc n) s at k =
-    rw (word-drop s at k, coordinates-drop n s at (k + 4), ← add-assoc at k 4)
-
--- each number is one that 32 bits hold
-abbrev pub Each : List ℤ → Type 0
-Each [] = Unit {0}
-Each (z ∷ zs) = SFits w32 z × Each zs
-
-drop-word : (n : ℕ) (xs ys : List ℕ) → drop 4 (wordBytes n ++ xs ++ ys) ≡ xs ++ ys
-unfolding wordBytes
-drop-word n xs ys = refl
-
-coordinates-back : (zs : List ℤ) (t : List ℕ) → Each zs → coordinatesAt (coordinateBytes zs ++ t) 0 (length zs) ≡ zs
-unfolding coordinatesAt coordinateBytes
-coordinates-back [] t h = refl
-coordinates-back (z ∷ zs) t h =
-    let l = wordBytes (bits z) ++ coordinateBytes zs ++ t in
-    let e : word l 0 ≡ bits z =
-    ap (λ (x : List ℕ). word x 0) (append-assoc (wordBytes (bits z)) (coordinateBytes zs) t) ∙ word-back (bits z) (coordinateBytes zs ++ t) (bits-below z (h .0)) in
-    let r : coordinatesAt l 4 (length zs) ≡ zs =
-    sym (coordinates-drop (length zs) l 4 0)
-    ∙ ap (λ (x : List ℕ). coordinatesAt x 0 (length zs)) (drop-word (bits z) (coordinateBytes zs) t)
-    ∙ coordinates-back zs t (h .1) in
-    rw (e, r, signed-bits z (h .0))
-
-coordinates-same : (n : ℕ) (s : List ℕ) (at : ℕ) → Bytes s → at + 4 * n ≤ length s → coordinateBytes (coordinatesAt s at n) ≡ take (4 * n) (drop at s)
-unfolding coordinatesAt coordinateBytes
-coordinates-same zero s at b h = refl
-coordinates-same (suc n) s at b h =
-    let e : 4 * suc n ≡ 4 + 4 * n = omega arith in
-    rw (e, take-add 4 (4 * n) (drop at s), drop-drop 4 at s, bits-signed (word s at) (word-lt s b at), word-same s b at (omega arith), coordinates-same n s (at + 4) b (omega arith))
-
 -- ---- records that a program holds
+
+-- what an edition 1 record can say: three equal separations, and nothing at 28
 pub record Narrow (r : Record) : Type 0 where
   pub dy : r .dx ≡ r .dy
   pub dz : r .dx ≡ r .dz
   pub spare : 0 ≡ r .spare
 
+-- each field fits its type; narrow, it has no more to say than there is room for
 pub record Held (wide : Bool) (r : Record) : Type 0 where
   pub kind : r .kind < 256
   pub flags : r .flags < 256
@@ -191,28 +157,26 @@ front false r t h =
       points = e5 i;
     }
 
-module _ (edition : ℕ) (s : List ℕ) (at : ℕ) (r : Record) (h : Held (isWide edition) r) where
-  pub read-back : at + recordSize edition ≤ length s → recordAt edition (put s at (recordBytes edition r)) at ≡ r
-  read-back room =
-      sym (record-drop (isWide edition) (put s at (recordBytes edition r)) at)
-      ∙ ap (λ (l : List ℕ). recordAt edition l 0) (drop-put s at (recordBytes edition r) (omega (arith, length-record (isWide edition) r h)))
-      ∙ front (isWide edition) r (drop (at + length (recordBytes edition r)) s) h
+pub read-back : (edition : ℕ) (s : List ℕ) (at : ℕ) (r : Record) → Held (isWide edition) r → at + recordSize edition ≤ length s
+    → recordAt edition (put s at (recordBytes edition r)) at ≡ r
+read-back edition s at r h room =
+    sym (record-drop (isWide edition) (put s at (recordBytes edition r)) at)
+    ∙ ap (λ (l : List ℕ). recordAt edition l 0) (drop-put s at (recordBytes edition r) (omega (arith, length-record (isWide edition) r h)))
+    ∙ front (isWide edition) r (drop (at + length (recordBytes edition r)) s) h
 
-  -- the buffer that a writer leaves when it is done
-  pub written-back : writeRefusal edition s at r ≡ 0 → recordAt edition (putUnless (writeRefusal edition s at r) s at (recordBytes edition r)) at ≡ r
-  unfolding putUnless
-  written-back e = rw e (read-back (write-room edition s at r e .room))
+-- the buffer that a writer leaves when it is done: what it does not refuse is such a record
+pub written-back : (edition : ℕ) (s : List ℕ) (at : ℕ) (r : Record) → r .id < 4294967296 → length (r .points) ≡ 24 → writeRefusal edition s at r ≡ 0
+    → recordAt edition (putUnless (writeRefusal edition s at r) s at (recordBytes edition r)) at ≡ r
+unfolding putUnless
+written-back edition s at r i n e =
+    let w = write-room edition s at r e in
+    rw e (read-back edition s at r (held (isWide edition) r (w .accepted) (narrow r w) i n) (w .room))
 
 pub same-record : (edition : ℕ) (r r′ : Record) → Held (isWide edition) r → Held (isWide edition) r′ → recordBytes edition r ≡ recordBytes edition r′ → r ≡ r′
 same-record edition r r′ h h′ e =
     sym (front (isWide edition) r [] h) ∙ ap (λ (l : List ℕ). recordAt edition (l ++ []) 0) e ∙ front (isWide edition) r′ [] h′
 
 -- ---- a record that stands in bytes
-each-read : (n : ℕ) (s : List ℕ) (at : ℕ) → Bytes s → (length (coordinatesAt s at n) ≡ n) × Each (coordinatesAt s at n)
-unfolding coordinatesAt
-each-read zero s at b = (refl, tt)
-each-read (suc n) s at b = let h = each-read n s (at + 4) b in (ap suc (h .0), (signed-fits (word s at) (word-lt s b at), h .1))
-
 pub read-held : (wide : Bool) (s : List ℕ) (at : ℕ) → Bytes s → Held wide (recordBy wide s at)
 unfolding recordBy
 read-held true s at b =

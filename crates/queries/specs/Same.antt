@@ -4,7 +4,6 @@
 -- Of either edition. Assumes nothing.
 use Prim.Native.Nat.{ℕ, zero, suc, _+_, _-_, _*_, _≤_}
 use mathlib.Core.Path.{_≡_, refl, sym, ap, _∙_}
-use mathlib.Core.Bool.{Bool, true, false}
 use mathlib.Core.List.{List, [], _∷_, _++_}
 use native.Mathlib.Omega.{arith}
 use lib.ListN.{length, take, drop, take-append-drop, length-drop}
@@ -12,9 +11,10 @@ use lib.Seq.{take-add, drop-drop, take-all}
 use Rattle.rules.specs.declared.Record.{Record}
 use Rattle.rules.specs.declared.Form.{Form}
 use Rattle.rules.specs.declared.Opened.the-variants.{Records}
-use Rattle.rules.specs.QueryFile.{wordBytes, isWide, sizeBy, recordSize, recordAt, queryForm, fileForm, editionBytes, trailerBytes, recordsBytes, fileBytes, trailerPlace, recordCount, openRefusal, opened}
+use Rattle.rules.specs.QueryFile.{wordBytes, isWide, recordSize, recordAt, queryForm, fileForm, editionBytes, trailerBytes, recordsBytes, fileBytes, trailerPlace, recordCount, openRefusal, opened}
 use Rattle.little.specs.Word.{Bytes, word-same}
 use Rattle.little.specs.Stands.{stands-bytes}
+use Rattle.queries.specs.Sizes.{size-zero, size-suc}
 use Rattle.queries.specs.Opening.{opens, opened-records}
 use Rattle.queries.specs.RoundTrip.{record-bytes}
 
@@ -28,21 +28,13 @@ unfolding recordsAt
 length-recordsAt zero edition s at = refl
 length-recordsAt (suc n) edition s at = ap suc (length-recordsAt n edition s (at + recordSize edition))
 
-next : (wide : Bool) (n : ℕ) → sizeBy wide * suc n ≡ sizeBy wide + sizeBy wide * n
-next true n = omega arith
-next false n = omega arith
-
-none : (wide : Bool) → sizeBy wide * 0 ≡ 0
-none true = refl
-none false = refl
-
 records-same : (n edition : ℕ) (s : List ℕ) (at : ℕ) → Bytes s → at + recordSize edition * n ≤ length s
     → recordsBytes edition (recordsAt edition s at n) ≡ take (recordSize edition * n) (drop at s)
 unfolding recordsAt recordsBytes
-records-same zero edition s at b h = ap (λ (n : ℕ). take n (drop at s)) (sym (none (isWide edition)))
+records-same zero edition s at b h = ap (λ (n : ℕ). take n (drop at s)) (sym (size-zero (isWide edition)))
 records-same (suc n) edition s at b h =
     let size = recordSize edition in
-    let e : size * suc n ≡ size + size * n = next (isWide edition) n in
+    let e : size * suc n ≡ size + size * n = size-suc (isWide edition) n in
     let one = record-bytes edition s at b (omega arith) in
     let rest = records-same n edition s (at + size) b (omega arith) in
     (λ i. one i ++ rest i)

@@ -3,7 +3,8 @@ use Prim.Native.Nat.{_-_}
 use native.Mathlib.Omega.{arith}
 use lib.ListN.{length}
 use Rattle.rules.specs.QueryFile.{isWide}
-use Rattle.answers.proofs.Walking.{record-in, Walked, walked-none, walked-more, walked-all}
+use Rattle.queries.specs.Sizes.{record-within}
+use Rattle.answers.proofs.Walking.{Walked, walked-none, walked-more, walked-all}
 use Rattle.answers.proofs.answer_records.Statement.{statement}
 use Rattle.answers.proofs.answer_records.Tie as tie
 
@@ -20,7 +21,7 @@ place-of-requires : tie.Need-place-of-requires Inv-loop μ-loop
 place-of-requires c κs =
     let k = c .before .before .before .before .before in
     let a = k .args in
-    omega (arith, record-in (isWide (a .edition)) (a .first) (a .count) (c .before .loop .i) (length (a .file .now)) (omega arith) (k .pre .0))
+    omega (arith, record-within (isWide (a .edition)) (a .first) (a .count) (c .before .loop .i) (length (a .file .now)) (omega arith) (k .pre .0))
 
 mul-answer-at : tie.Need-mul-answer-at Inv-loop μ-loop
 mul-answer-at c = omega arith
@@ -32,7 +33,7 @@ answer-at-requires c κs =
     let k = p .before .before .before .before .before .before in
     let a = k .args in
     record {
-      there = omega (arith, p .place-of .ensures, record-in (isWide (a .edition)) (a .first) (a .count) (p .before .before .loop .i) (length (a .file .now)) (omega arith) (k .pre .0));
+      there = omega (arith, p .place-of .ensures, record-within (isWide (a .edition)) (a .first) (a .count) (p .before .before .loop .i) (length (a .file .now)) (omega arith) (k .pre .0));
       room = omega (arith, w .numbers);
       zero = w .zero;
     }
