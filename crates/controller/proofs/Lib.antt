@@ -1,0 +1,2 @@
+-- What the proofs of `controller` cite.
+pub mod Writing

@@ -1,0 +1,2 @@
+-- What the library's writers promise.
+pub mod Copying
