@@ -8,10 +8,12 @@
  * What is told of a record are eight numbers: id, word, t, u, v, excess, count, refusal number.
  *   word    0 refused, 1 MET, 2 CLEAR, 3 SPENT, 4 ROOM, 5 FLOOR
  *   t, u, v the recorded moment and place in 1/1,048,576 parts (0 for CLEAR and a refused record)
- *   excess  how far beyond the separation the gap is there, in units of 1/8 mm, rounded up
+ *   excess  how far F is beyond the separation there, on the axis where that is most, in units of 1/8 mm, rounded up
  *   count   boxes checked
  *   refusal number   1 KIND, 2 FLAGS, 3 COORD, 4 SEPARATION, 5 TOLERANCE, 6 BUDGET, 7 QUEUE for a refused record, else 0
  * Numbers that an answer does not carry are 0.
+ *
+ * A file is of edition 1 (records of 116 bytes, one separation for all axes) or 2 (128 bytes, one for each); no call asks which.
  *
  * What is returned: 0, or why nothing was done: 8 SHORT, 9 MARK, 10 EDITION, 11 COUNT, 12 BACK of the file, 13 INDEX of the record number,
  * 14 SPACE where fewer numbers are lent than are to be told; the lowest. Then nothing that was lent is changed.
@@ -39,6 +41,15 @@ uint32_t taperhive_answers(const uint8_t *file, size_t file_len, uint64_t *queue
 
 /* How many records the file has, into told[0]. */
 uint32_t taperhive_count(const uint8_t *file, size_t file_len, uint32_t *told, size_t told_len);
+
+/* Record n of a file, written into another buffer from place `at` on, in edition 1 or 2. Returns 0, or why nothing was done and no byte was changed: 8 to 13 of the file and the
+ * number, 1 to 6 of the record (4 also for edition 1 where the three separations differ), 10 for an edition other than 1 and 2, 14 where fewer bytes than the record's 116 or 128
+ * stand from that place on, a place past the end included. */
+uint32_t taperhive_copy(const uint8_t *file, size_t file_len, size_t n, uint8_t edition, uint8_t *out, size_t out_len, size_t at);
+
+/* The 16 bytes of a query file's trailer from place `at` on, behind so many records. Returns 0, or 10, 11, 12 (fewer bytes before the place than the records take), 14, and no
+ * byte is changed. */
+uint32_t taperhive_trailer(uint8_t *out, size_t out_len, size_t at, uint8_t edition, uint32_t count);
 
 #ifdef __cplusplus
 }
