@@ -1,10 +1,10 @@
--- `text::write_field` meets its contract. Assumes nothing.
+-- `text::pieces::write_field` meets its contract. Assumes nothing.
 use native.Mathlib.Omega.{arith}
 use Rattle.text.specs.Text.{field}
 use Rattle.text.proofs.Writing.{then}
 use borrow.Author.Needs.{needs}
-use Rattle.text.proofs.write_field.Statement.{statement}
-use Rattle.text.proofs.write_field.Tie as tie
+use Rattle.text.proofs.pieces.write_field.Statement.{statement}
+use Rattle.text.proofs.pieces.write_field.Tie as tie
 
 write-byte-requires : tie.Need-write-byte-requires
 write-byte-requires c κs = search needs

@@ -8,12 +8,12 @@ use Rattle.text.proofs.Digits.{decimal-short, wrote-short, wrote-long, 
 use Prim.Native.Nat.{ℕ, _<_}
 use borrow.Fn.Kinds.{In}
 use borrow.Fn.PlainCycle.{Measures, is, falls, and}
-use Rattle.text.proofs.write_digits.Reads as write-digits
-use Rattle.text.proofs.write_digits.Kinds as write-digits-kinds
-use Rattle.text.proofs.+write_digits.Lts-write_digits as write-digits-lts
-use Rattle.text.proofs.write_byte.Reads as write-byte-reads
-use Rattle.text.proofs.+write_digits.{statement}
-use Rattle.text.proofs.+write_digits.Tie.{close}
+use Rattle.text.proofs.pieces.write_digits.Reads as write-digits
+use Rattle.text.proofs.pieces.write_digits.Kinds as write-digits-kinds
+use Rattle.text.proofs.pieces.+write_digits.Lts-write_digits as write-digits-lts
+use Rattle.text.proofs.pieces.write_byte.Reads as write-byte-reads
+use Rattle.text.proofs.pieces.+write_digits.{statement}
+use Rattle.text.proofs.pieces.+write_digits.Tie.{close}
 
 abbrev μ-write-digits : Measures 1 write-digits-kinds.ps ℕ
 μ-write-digits κs a = a .1 .1 .0

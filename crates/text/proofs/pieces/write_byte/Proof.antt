@@ -1,10 +1,10 @@
--- `text::write_byte` meets its contract. Assumes nothing.
+-- `text::pieces::write_byte` meets its contract. Assumes nothing.
 use borrow.Author.Needs.{needs}
 use mathlib.Core.Path.{refl}
 use native.Mathlib.Omega.{arith}
 use Rattle.text.proofs.Writing.{put-one}
-use Rattle.text.proofs.write_byte.Statement.{statement}
-use Rattle.text.proofs.write_byte.Tie as tie
+use Rattle.text.proofs.pieces.write_byte.Statement.{statement}
+use Rattle.text.proofs.pieces.write_byte.Tie as tie
 
 slice-write-out : tie.Need-slice-write-out
 slice-write-out c = search needs

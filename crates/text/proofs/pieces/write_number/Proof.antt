@@ -1,10 +1,10 @@
--- `text::write_number` meets its contract: a number of 32 bits has at most ten digits. Assumes nothing.
+-- `text::pieces::write_number` meets its contract: a number of 32 bits has at most ten digits. Assumes nothing.
 use native.Mathlib.Omega.{arith}
 use Rattle.text.proofs.Writing.{roomier}
 use Rattle.text.proofs.Digits.{decimal-most}
 use borrow.Author.Needs.{needs}
-use Rattle.text.proofs.write_number.Statement.{statement}
-use Rattle.text.proofs.write_number.Tie as tie
+use Rattle.text.proofs.pieces.write_number.Statement.{statement}
+use Rattle.text.proofs.pieces.write_number.Tie as tie
 
 write-digits-requires : tie.Need-write-digits-requires
 write-digits-requires c κs = omega (arith, decimal-most (c .before .before .args .n) (omega arith))

@@ -1,12 +1,12 @@
--- `text::write_name` meets its contract: one name for each word, and a number of no word is named REFUSED. Assumes nothing.
+-- `text::pieces::write_name` meets its contract: one name for each word, and a number of no word is named REFUSED. Assumes nothing.
 use native.Mathlib.Omega.{arith}
 use mathlib.Core.Path.{_≡_}
 use Rattle.text.specs.Text.{named, kindOf}
 use Rattle.text.proofs.Writing.{roomier}
 use Rattle.text.proofs.Words.{named-other}
 use borrow.Author.Needs.{needs}
-use Rattle.text.proofs.write_name.Statement.{statement}
-use Rattle.text.proofs.write_name.Tie as tie
+use Rattle.text.proofs.pieces.write_name.Statement.{statement}
+use Rattle.text.proofs.pieces.write_name.Tie as tie
 
 slice-aggregate-write-text : tie.Need-slice-aggregate-write-text
 slice-aggregate-write-text c = search needs

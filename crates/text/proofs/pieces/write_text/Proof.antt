@@ -1,12 +1,12 @@
--- `text::write_text` meets its contract. The loop's invariant: the first i bytes of `text` stand there. Assumes nothing.
+-- `text::pieces::write_text` meets its contract. The loop's invariant: the first i bytes of `text` stand there. Assumes nothing.
 use native.Mathlib.Omega.{arith}
 use Prim.Native.Nat.{ℕ, suc, _+_, _-_, _≤_}
 use mathlib.Core.Path.{_≡_, refl, ap, _∙_}
 use lib.ListN.{length, set, getD, length-set}
 use lib.Seq.{paste, paste-zero, paste-suc}
 use Rattle.text.proofs.Writing.{put-paste}
-use Rattle.text.proofs.write_text.Statement.{statement}
-use Rattle.text.proofs.write_text.Tie as tie
+use Rattle.text.proofs.pieces.write_text.Statement.{statement}
+use Rattle.text.proofs.pieces.write_text.Tie as tie
 
 abbrev Inv-loop : tie.InvT-loop
 Inv-loop out₀ at text i₀ out i = (i ≤ length text) × (length out ≡ length out₀) × (out ≡ paste out₀ at text i)

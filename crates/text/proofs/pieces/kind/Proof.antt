@@ -1,7 +1,7 @@
--- `text::kind` meets its contract. Assumes nothing.
+-- `text::pieces::kind` meets its contract. Assumes nothing.
 use Rattle.text.proofs.Words.{kind-low, kind-high}
-use Rattle.text.proofs.kind.Statement.{statement}
-use Rattle.text.proofs.kind.Tie as tie
+use Rattle.text.proofs.pieces.kind.Statement.{statement}
+use Rattle.text.proofs.pieces.kind.Tie as tie
 
 returns : tie.Need-returns
 returns c = kind-low (c .before .args .word) (c .if1 .taken)
