@@ -32,6 +32,20 @@ fn moment(word: u32, t: u32, u: u32, v: u32, excess: u32, count: u32) -> Told
     }
 }
 
+fn refused(number: u32) -> Told
+    ensures { λ r. ⌜ r ≡ record { word = 0; t = 0; u = 0; v = 0; excess = 0; count = 0; number = number } ⌝ }
+{
+    Told {
+        word: 0,
+        t: 0,
+        u: 0,
+        v: 0,
+        excess: 0,
+        count: 0,
+        number,
+    }
+}
+
 pub fn numbers(answer: Answer) -> Told
     ensures { λ r. ⌜ r ≡ told answer ⌝ }
 {
@@ -65,15 +79,7 @@ pub fn numbers(answer: Answer) -> Told
             excess,
             count,
         } => moment(5, t, u, v, excess, count),
-        Answer::Refused(number) => Told {
-            word: 0,
-            t: 0,
-            u: 0,
-            v: 0,
-            excess: 0,
-            count: 0,
-            number,
-        },
+        Answer::Refused(number) => refused(number),
     }
 }
 

@@ -38,6 +38,9 @@ moment-requires-5 c κs = search needs
 enum-known-answer-6 : tie.Need-enum-known-answer-6
 enum-known-answer-6 c = search needs
 
+refused-requires : tie.Need-refused-requires
+refused-requires c κs = search needs
+
 returns : tie.Need-returns
 returns c = c .moment .ensures ∙ ap told (sym (c .before .before .answer .given .1))
 
@@ -54,7 +57,7 @@ returns-5 : tie.Need-returns-5
 returns-5 c = c .moment5 .ensures ∙ ap told (sym (c .before .before .answer5 .given .1))
 
 returns-6 : tie.Need-returns-6
-returns-6 c = ap told (sym (c .before .answer6 .given .1))
+returns-6 c = c .refused .ensures ∙ ap told (sym (c .before .before .answer6 .given .1))
 
 pub numbers-spec : {M : Type 1} → statement M
 numbers-spec =
@@ -71,6 +74,7 @@ numbers-spec =
     enum-known-answer-5
     moment-requires-5
     enum-known-answer-6
+    refused-requires
     returns
     returns-2
     returns-3
