@@ -7,9 +7,9 @@ use borrow.Author.Tests.{lt-ltb, le-ltb}
 use lib.Dec.{ltb}
 use native.Mathlib.Omega.{arith}
 use lib.ListN.{length, set}
-use Rattle.rules.specs.Refusals.{Case, first}
+use Rattle.rules.specs.Refusals.{Case, first, orElse}
 use Rattle.rules.specs.QueryFile.{fileForm, recordCount, openCases, openRefusal, put, putUnless}
-use Rattle.refusals.specs.Cases.{orElse, first-then}
+use Rattle.refusals.specs.Cases.{first-then}
 use Rattle.answers.specs.Walk.{short, queueUnless, Does, Counted, oneRefusal, allRefusal, countRefusal}
 
 module _ (s : List ℕ) (more : List Case) where

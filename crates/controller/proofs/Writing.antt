@@ -6,7 +6,7 @@ use Rattle.rules.specs.declared.Wrote.{Wrote}
 use Rattle.rules.specs.declared.Fetched.{Fetched}
 use Rattle.rules.specs.declared.Record.{Record}
 use Rattle.rules.specs.QueryFile.{fetched, recordBytes, writeRefusal, wroteUnless, putUnless, Written}
-use Rattle.refusals.specs.Cases.{orElse}
+use Rattle.rules.specs.Refusals.{orElse}
 use Rattle.controller.specs.Copying.{numberOf, copyRefusal, Puts, Copied}
 
 number-wrote : (k : ℕ) → numberOf (wroteUnless k) ≡ k

@@ -5,7 +5,7 @@ use mathlib.Core.List.{List}
 use Rattle.rules.specs.declared.Wrote.{Wrote}
 use Rattle.rules.specs.declared.Wrote.the-variants.{Done, Refused}
 use Rattle.rules.specs.QueryFile.{fetched, recordBytes, trailerBytes, queryForm, writeRefusal, queryTrailerRefusal, putUnless}
-use Rattle.refusals.specs.Cases.{orElse}
+use Rattle.rules.specs.Refusals.{orElse}
 
 -- a writer's number, 0 where it is done
 abbrev pub numberOf : Wrote → ℕ

@@ -10,12 +10,12 @@ use Rattle.rules.specs.declared.Answer.{Answer}
 use Rattle.rules.specs.declared.Answer.the-variants.{Met, Clear}
 use Rattle.rules.specs.declared.Told.{Told}
 use Rattle.rules.specs.Numbers.{parts}
-use Rattle.rules.specs.Answers.{told}
+use Rattle.rules.specs.Answers.{told, hasMoment}
 use Rattle.rules.specs.Gap.{X, Y, Z, Place, OnBodies, Contact, moving, vertexFace, edgeEdge, gapOn, negateFrom, sided}
 use Rattle.rules.specs.Refusals.{first, every, searchRefusal}
 use Rattle.rules.specs.Search.{search, run, levels, afterLevel, ifRoom, halves, merge, takeIn, notAfter, those, inside, split, winner, spread, check, oneBox, near, firstSurvivor, corner, excess, width, survives, least, greatest, overCorners, unless}
 use Rattle.rules.specs.Berth.{asked, point, still, below-flag, falling, T as face, P-T}
-use Rattle.promise.specs.Promise.{hasMoment, answered, Within, Promised}
+use Rattle.promise.specs.Promise.{answered, Within, Promised}
 
 abbrev at : ℕ → ℕ → ℕ → ℕ → Place
 at q a b c = record { q = q; a = a; b = b; c = c }

@@ -3,23 +3,18 @@
 use Prim.Native.Nat.{ℕ, _+_, _*_, _≤_, _<_}
 use mathlib.Core.Path.{_≡_}
 use mathlib.Core.Logic.{_↔_}
-use mathlib.Core.Bool.{Bool, _||_}
 use lib.IntN.{natAbs}
-use lib.Dec.{T, eqb}
+use lib.Dec.{T}
 use Rattle.rules.specs.declared.Record.{Record}
 use Rattle.rules.specs.declared.Answer.the-variants.{Refused}
 use Rattle.rules.specs.declared.Told.{Told}
 use Rattle.rules.specs.Numbers.{parts}
 use Rattle.rules.specs.Gap.{Axis, gapOn, sided, isVertexFace, separationOn, Place, OnBodies, Contact}
-use Rattle.rules.specs.Answers.{told}
+use Rattle.rules.specs.Answers.{told, hasMoment}
 use Rattle.rules.specs.Refusals.{searchRefusal}
 use Rattle.rules.specs.Search.{search}
 
 -- ---- an answer
-
--- MET, SPENT, ROOM and FLOOR (words 1, 3, 4, 5) answer a moment
-abbrev pub hasMoment : Told → Bool
-hasMoment a = eqb (a .word) 1 || eqb (a .word) 3 || eqb (a .word) 4 || eqb (a .word) 5
 
 -- the answered moment and place: "t, u, v count 1/1,048,576 parts"
 abbrev pub answered : Told → Place

@@ -9,7 +9,7 @@ use mathlib.Core.Bool.{Bool, true, false, cond, _&&_}
 use mathlib.Core.List.{List, [], _∷_, _++_}
 use native.Mathlib.Omega.{arith}
 use lib.Dec.{T}
-use Rattle.rules.specs.Refusals.{Case, first}
+use Rattle.rules.specs.Refusals.{Case, first, orElse}
 
 unfoldable pub firstOr : List Case → ℕ → ℕ
 firstOr [] rest = rest
@@ -24,11 +24,6 @@ pub first-alone : (cs : List Case) → first cs ≡ firstOr cs 0
 unfolding first firstOr
 first-alone [] = refl
 first-alone (c ∷ cs) = rw (first-alone cs)
-
--- one number, or another where it is none (0)
-abbrev pub orElse : ℕ → ℕ → ℕ
-orElse zero m = m
-orElse (suc k) m = suc k
 
 -- whether no row has the number 0: of a list that is written out this computes
 abbrev pub positive : ℕ → Bool

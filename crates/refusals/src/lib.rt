@@ -33,7 +33,7 @@ fn are_separations(r: Record) -> bool
 }
 
 // Nothing is negated here: the least i32 has no negative.
-fn is_coordinate(c: i32) -> bool
+pub fn is_coordinate(c: i32) -> bool
     ensures { λ b. ⌜ b ≡ isCoordinate c ⌝ }
 {
     (-1048576 <= c) & (c <= 1048576)

@@ -6,3 +6,5 @@ pub mod Refusals
 pub mod Search
 pub mod QueryFile
 pub mod Berth
+pub mod Bodies
+pub mod BodyExamples

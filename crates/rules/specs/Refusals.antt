@@ -1,5 +1,5 @@
 -- Document 01, "What comes back": rows 1 to 7 of the table, and their order.
-use Prim.Native.Nat.{ℕ}
+use Prim.Native.Nat.{ℕ, zero, suc}
 use mathlib.Core.Bool.{Bool, true, false, not, _&&_, _||_, cond}
 use mathlib.Core.List.{List, [], _∷_, _++_}
 use lib.IntN.{ℤ}
@@ -16,6 +16,11 @@ pub record Case : Type 0 where
 unfoldable pub first : List Case → ℕ
 first [] = 0
 first (c ∷ cs) = cond (c .due) (c .number) (first cs)
+
+-- one number, or another where it is none (0)
+abbrev pub orElse : ℕ → ℕ → ℕ
+orElse zero m = m
+orElse (suc n) m = suc n
 
 -- whether all of them are such
 unfoldable pub every : (ℤ → Bool) → List ℤ → Bool

@@ -113,3 +113,36 @@ pub enum Wrote {
     Done,
     Refused(u32),
 }
+
+// What two bodies are asked with: one separation triple, tolerance and budget for all queries.
+pub struct Terms {
+    pub dx: u32,
+    pub dy: u32,
+    pub dz: u32,
+    pub tolerance: u32,
+    pub budget: u32,
+}
+
+// One of a triangle pair's fifteen queries: its kind and its four points, 0 to 2 the corners 1 to 3 of A, 3 to 5 those of B.
+pub struct Ask {
+    pub kind: u8,
+    pub p: usize,
+    pub q: usize,
+    pub r: usize,
+    pub s: usize,
+}
+
+// What two bodies are answered; the sum of counts needs 64 bits. `Least`: the least time, with the triangles of A and B and the query that has it first.
+pub enum BodyAnswer {
+    Clear(u64),
+    Least {
+        t: u32,
+        a: u32,
+        b: u32,
+        query: u32,
+        word: u32,
+        excess: u32,
+        count: u64,
+    },
+    Refused(u32),
+}

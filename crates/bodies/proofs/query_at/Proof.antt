@@ -1,0 +1,20 @@
+-- `bodies::query_at` meets its contract. Assumes nothing.
+use borrow.Author.Needs.{needs}
+use mathlib.Core.Path.{sym}
+use Rattle.bodies.proofs.query_at.Statement.{statement}
+use Rattle.bodies.proofs.query_at.Tie as tie
+
+sub-ask-at : tie.Need-sub-ask-at
+sub-ask-at c = search needs
+
+ask-at-requires : tie.Need-ask-at-requires
+ask-at-requires c κs = search needs
+
+query-of-requires : tie.Need-query-of-requires
+query-of-requires c κs = search needs
+
+returns : tie.Need-returns
+returns c = rw (sym (c .before .ask-at .ensures .0)) (c .query-of .ensures)
+
+pub query-at-spec : {M : Type 1} → statement M
+query-at-spec = tie.close (tie.spec sub-ask-at ask-at-requires query-of-requires returns)

@@ -1,0 +1,5 @@
+-- What the parts of the walk over two bodies promise.
+pub mod Asking
+pub mod OnePass
+pub mod Coordinates
+pub mod Check

@@ -1,0 +1,2 @@
+-- Laws of the queries of two bodies, over the definitions of `rules`.
+pub mod Members
