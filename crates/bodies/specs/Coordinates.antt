@@ -53,7 +53,7 @@ RightAsk q = Right (q .ask .points)
 pub queries-right : (w : Terms) (a b : Body) → RightBody a → RightBody b → All RightAsk (queriesOf w a b)
 unfolding askOf every
 queries-right w a b ha hb =
-    all-of RightAsk w a b (λ i j n k. four-right (a .start) (b .start) i j k (fourOf (a .end) (b .end) i j k []) (ha .start) (hb .start) (four-right (a .end) (b .end) i j k [] (ha .end) (hb .end) refl))
+    all-of RightAsk w a b (λ i j k _ _ _. four-right (a .start) (b .start) i j (askAt k) (fourOf (a .end) (b .end) i j (askAt k) []) (ha .start) (hb .start) (four-right (a .end) (b .end) i j (askAt k) [] (ha .end) (hb .end) refl))
 
 -- ---- a list of queries
 

@@ -42,10 +42,12 @@ module _ (P : Asked → Type 0) where
       subst (λ (y : ℕ). All P (f y)) at (parts (f i) (eachFrom (i + 1) n f) h .0)
   in-each i (suc n) (suc m) x f e l h = in-each (i + 1) n m x f (omega (arith, e)) (omega arith) (parts (f i) (eachFrom (i + 1) n f) h .1)
 
-  of-each : (i n : ℕ) (f : ℕ → List Asked) → ((m : ℕ) → All P (f m)) → All P (eachFrom i n f)
+  of-each : (i n : ℕ) (f : ℕ → List Asked) → ((m x : ℕ) → i + m ≡ x → m < n → All P (f x)) → All P (eachFrom i n f)
   unfolding All eachFrom
   of-each i zero f h = tt
-  of-each i (suc n) f h = both (f i) (eachFrom (i + 1) n f) (h i) (of-each (i + 1) n f h)
+  of-each i (suc n) f h =
+      both (f i) (eachFrom (i + 1) n f) (h 0 i (omega arith) (omega arith))
+      (of-each (i + 1) n f (λ m x e l. h (suc m) x (omega (arith, e)) (omega arith)))
 
   module _ (w : Terms) (a b : Body) where
     in-pair : (i j n k x : ℕ) (ks : List Ask) (d : Ask) → n + k ≡ x → k < length ks → All P (askedFrom w a b i j n ks) → P (asked w a b i j x (getD ks k d))
@@ -56,10 +58,10 @@ module _ (P : Asked → Type 0) where
         subst (λ (y : ℕ). P (asked w a b i j y c)) at (h .0)
     in-pair i j n (suc k) x (c ∷ ks) d e l h = in-pair i j (n + 1) k x ks d (omega (arith, e)) (omega arith) (h .1)
 
-    of-pair : (i j n : ℕ) (ks : List Ask) → ((m : ℕ) (k : Ask) → P (asked w a b i j m k)) → All P (askedFrom w a b i j n ks)
+    of-pair : (i j n : ℕ) (ks : List Ask) (d : Ask) → ((k x : ℕ) → n + k ≡ x → k < length ks → P (asked w a b i j x (getD ks k d))) → All P (askedFrom w a b i j n ks)
     unfolding All askedFrom
-    of-pair i j n [] h = tt
-    of-pair i j n (x ∷ ks) h = (h n x, of-pair i j (n + 1) ks h)
+    of-pair i j n [] d h = tt
+    of-pair i j n (c ∷ ks) d h = (h 0 n (omega arith) (omega arith), of-pair i j (n + 1) ks d (λ k x e l. h (suc k) x (omega (arith, e)) (omega arith)))
 
     pub member : (i j k : ℕ) → i < a .count → j < b .count → k < 15 → All P (queriesOf w a b) → P (asked w a b i j (1 + k) (askAt k))
     unfolding queriesOf
@@ -68,6 +70,8 @@ module _ (P : Asked → Type 0) where
         (in-each 0 (b .count) j j (λ y. askedFrom w a b i y 1 fifteen) (omega arith) lj
         (in-each 0 (a .count) i i (λ x. eachFrom 0 (b .count) (λ y. askedFrom w a b x y 1 fifteen)) (omega arith) li h))
 
-    pub all-of : ((i j n : ℕ) (k : Ask) → P (asked w a b i j n k)) → All P (queriesOf w a b)
+    pub all-of : ((i j k : ℕ) → i < a .count → j < b .count → k < 15 → P (asked w a b i j (1 + k) (askAt k))) → All P (queriesOf w a b)
     unfolding queriesOf
-    all-of h = of-each 0 (a .count) _ (λ i. of-each 0 (b .count) _ (λ j. of-pair i j 1 fifteen (h i j)))
+    all-of h =
+        of-each 0 (a .count) _ (λ i i′ ei li. of-each 0 (b .count) _ (λ j j′ ej lj. of-pair i′ j′ 1 fifteen (face 0 3 4 5) (λ k x e lk.
+        subst (λ (y : ℕ). P (asked w a b i′ j′ y (askAt k))) e (h i′ j′ k (omega (arith, ei)) (omega (arith, ej)) lk))))
