@@ -1,4 +1,4 @@
--- The proofs, from the ground up: a straight line; a box; the lists of a level; the first survivor; the levels; the promises; and the rules before R-4.
+-- The proofs, from the ground up: a straight line; a box; the lists of a level; the first survivor; the levels; the promises; the rules before R-4; and two bodies.
 pub mod Line
 pub mod Side
 pub mod Box
@@ -14,3 +14,6 @@ pub mod Accepted
 pub mod Demands
 pub mod Sharp
 pub mod Old
+pub mod Queries
+pub mod Heard
+pub mod Bodies

@@ -1,3 +1,4 @@
 -- What the written search promises, over the definitions of `rules`; that it does is proved in ../proofs.
 pub mod Promise
 pub mod OldRules
+pub mod Bodies
