@@ -17,3 +17,4 @@ pub mod Old
 pub mod Queries
 pub mod Heard
 pub mod Bodies
+pub mod SharpBodies
