@@ -17,10 +17,10 @@ use lib.ListN.{length, getD, drop}
 use Rattle.rules.specs.declared.Record.{Record}
 use Rattle.rules.specs.declared.Form.{Form}
 use Rattle.rules.specs.declared.Opened.the-variants.{Records, Refused}
-use Rattle.rules.specs.Refusals.{Case, first}
+use Rattle.rules.specs.Refusals.{Case, first, orElse}
 use Rattle.rules.specs.QueryFile.{stands, isEdition, isWide, recordSize, editionBytes, fileForm, trailerPlace, backPointer, recordCount, openCases, openRefusal, openUnless, opened, reachRefusal, noRecord, fetchUnless}
 use Rattle.queries.specs.Sizes.{record-within, short-size}
-use Rattle.refusals.specs.Cases.{orElse, first-then, not-due}
+use Rattle.refusals.specs.Cases.{first-then, not-due}
 
 -- a file is not refused 10 exactly when its edition is 1 or 2 and the three bytes behind that are zero
 pub ten-exactly : (s : List ℕ) → let at = trailerPlace s + 4 in stands s at (editionBytes (fileForm s)) ≡ (isEdition (getD s at 0) && stands s (at + 1) (0 ∷ 0 ∷ 0 ∷ []))

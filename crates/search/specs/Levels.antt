@@ -5,11 +5,13 @@ use mathlib.Core.List.{List, map}
 use Prim.Native.Nat.{ℕ, _+_, _/_, _≤_, _<_}
 use lib.Dec.{eqb}
 use lib.ListN.{length, getD, take, replicate}
+use Rattle.rules.specs.declared.Record.{Record}
 use Rattle.rules.specs.declared.Corner.{Corner}
 use Rattle.rules.specs.declared.Answer.{Answer}
 use Rattle.rules.specs.declared.Answer.the-variants.{Met, Clear, Spent, Room, Floor, Refused}
 use Rattle.rules.specs.declared.Parameter.{Parameter}
 use Rattle.rules.specs.declared.Parameter.the-variants.{InT, InU, InV}
+use Rattle.rules.specs.Refusals.{searchRefusal}
 use Rattle.rules.specs.Search.{Query, Box, Depths, Checked, answered, through, keep, survives, near, full, corner, firstSurvivor, oneBox, check, afterLevel}
 use Rattle.kernel.specs.declared.Pair.{Pair}
 use Rattle.kernel.specs.Kernel.{asked}
@@ -152,6 +154,11 @@ pub record StepIs (p : Pair) (l : Level) (old new : List ℕ) (r : Step) : Type 
 pub record Zeroed (p : Pair) (queue : List ℕ) : Type 0 where
   pub ranged : Ranged p
   pub room : p .room ≡ length queue / 2
+  pub zero : queue ≡ replicate (length queue) 0
+
+-- a record that is not refused, and a queue of zeros
+pub record Accepted (r : Record) (queue : List ℕ) : Type 0 where
+  pub none : searchRefusal r (length queue) ≡ 0
   pub zero : queue ≡ replicate (length queue) 0
 
 -- a queue that is said to be clean is zero

@@ -9,7 +9,7 @@ ghost use Rattle.rules.specs.Answers.{queueAfter};
 ghost use Rattle.rules.specs.Search.{deeper, run, search};
 ghost use Rattle.kernel.specs.Kernel.{asked};
 ghost use Rattle.kernel.specs.Ranges.{Shallow};
-ghost use Rattle.search.specs.Levels.{Answers, OneBox, FirstIs, BoxIs, Fine, Tidy, CheckIs, Splitting, SplitIs, StepIs, Zeroed, Clean};
+ghost use Rattle.search.specs.Levels.{Answers, OneBox, FirstIs, BoxIs, Fine, Tidy, CheckIs, Splitting, SplitIs, StepIs, Zeroed, Accepted, Clean};
 use boxes::unpack;
 use kernel::Pair;
 use queue::Next;
@@ -268,6 +268,17 @@ fn clear_unless(queue: &mut [u64], clean: bool)
     }
 }
 
+// The search of a record that is not refused, in a queue of zeros: one who has checked many records at once asks so.
+pub fn search_accepted(r: Record, queue: &mut [u64]) -> Answer
+    requires { ⌜ Accepted r (now queue) ⌝ }
+    ensures { λ a. ⌜ a ≡ search r (length (now (queue .entry))) ⌝ }
+    ensures { λ a. ⌜ now (queue .exit) ≡ now (queue .entry) ⌝ }
+    ensures { λ a. ⌜ Answers a ⌝ }
+{
+    let p = gap::prepare(r, queue.len());
+    search_zeroed(p, queue)
+}
+
 // The search of a record in a queue that may be `clean`: one who asks again and again clears it once.
 pub fn search_in(r: Record, queue: &mut [u64], clean: bool) -> Answer
     requires { ⌜ Clean clean (now queue) ⌝ }
@@ -278,9 +289,8 @@ pub fn search_in(r: Record, queue: &mut [u64], clean: bool) -> Answer
     if number != 0 {
         return Answer::Refused(number);
     }
-    let p = gap::prepare(r, queue.len());
     clear_unless(queue, clean);
-    search_zeroed(p, queue)
+    search_accepted(r, queue)
 }
 
 // The search of a record: a refusal touches no word, and after any answer every word is zero.

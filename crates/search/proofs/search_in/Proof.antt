@@ -1,9 +1,10 @@
 -- A refusal touches nothing; else the cleared queue is lent on.
 use mathlib.Core.Path.{sym, ap, _∙_}
-use Prim.Native.Nat.{ℕ, _/_}
+use Prim.Native.Nat.{ℕ}
 use lib.ListN.{length, replicate}
-use Rattle.rules.specs.Search.{Query, run}
-use Rattle.search.proofs.Running.{search-refused, search-run, after-refusal, after-answer}
+use Rattle.rules.specs.Refusals.{searchRefusal}
+use Rattle.rules.specs.Search.{search as searched}
+use Rattle.search.proofs.Running.{search-refused, after-refusal, after-answer}
 use native.Mathlib.Omega.{arith}
 use borrow.Author.Needs.{needs}
 use Rattle.search.proofs.search_in.Statement.{statement}
@@ -18,19 +19,16 @@ returns c =
     let e = search-refused (s .args .r) (length (s .args .queue .now)) (c .before .search-refusal .result) (c .before .search-refusal .ensures) (c .if1 .taken) in
     (e, after-refusal (s .args .r) (length (s .args .queue .now)) (c .before .search-refusal .result) (s .args .queue .now) e)
 
-prepare-requires : tie.Need-prepare-requires
-prepare-requires c κs =
-    sym (c .before .search-refusal .ensures) ∙ omega (arith, c .if1 .left)
-
 clear-unless-requires : tie.Need-clear-unless-requires
 clear-unless-requires c κs = search needs
 
-search-zeroed-requires : tie.Need-search-zeroed-requires
-search-zeroed-requires c κs =
+search-accepted-requires : tie.Need-search-accepted-requires
+search-accepted-requires c κs =
+    let u = c .before .before .before in
+    let n = ap (λ (words : ℕ). searchRefusal (u .before .before .before .before .before .args .r) words) (u .clear-unless .kept .0) in
     record {
-      ranged = c .before .before .before .before .before .prepare .ensures .ranged;
-      room = ap (λ (q : Query). q .room) (c .before .before .before .before .before .prepare .ensures .asks) ∙ ap (λ (n : ℕ). n / 2) (sym (c .before .before .before .clear-unless .kept .0));
-      zero = c .before .before .before .clear-unless .ensures ∙ ap (λ (n : ℕ). replicate n 0) (sym (c .before .before .before .clear-unless .kept .0));
+      none = n ∙ sym (u .before .before .before .search-refusal .ensures) ∙ omega (arith, u .before .before .if1 .left);
+      zero = u .clear-unless .ensures ∙ ap (λ (n : ℕ). replicate n 0) (sym (u .clear-unless .kept .0));
     }
 
 same-length : tie.Need-same-length
@@ -38,11 +36,11 @@ same-length c = search needs
 
 returns-2 : tie.Need-returns-2
 returns-2 c =
-    let s = c .before .before .before .before .before .before .before .before .before .before .before .before in
-    let z = c .before .before .search-zeroed .ensures in
-    let e = search-run (s .args .r) (length (s .args .queue .now)) (c .before .before .before .before .before .before .before .before .before .before .search-refusal .result) (c .before .before .before .before .before .before .before .before .before .before .search-refusal .ensures) (omega (arith, c .before .before .before .before .before .before .before .before .before .if1 .left)) in
-    let f = z .0 ∙ ap run (c .before .before .before .before .before .before .before .before .prepare .ensures .asks) ∙ sym e in
-    (f, z .1 .0 ∙ c .before .before .before .before .before .before .clear-unless .ensures ∙ sym (rw f at (after-answer (c .before .before .search-zeroed .result) (z .1 .1) (s .args .queue .now))))
+    let z = c .before .before .search-accepted .ensures in
+    let u = c .before .before .before .before .before .before in
+    let s = u .before .before .before .before .before in
+    let f = z .0 ∙ ap (searched (s .args .r)) (u .clear-unless .kept .0) in
+    (f, z .1 .0 ∙ u .clear-unless .ensures ∙ sym (rw f at (after-answer (c .before .before .search-accepted .result) (z .1 .1) (s .args .queue .now))))
 
 pub search-in-spec : {M : Type 1} → statement M
 search-in-spec =
@@ -50,8 +48,7 @@ search-in-spec =
     (tie.spec
     search-refusal-requires
     returns
-    prepare-requires
     clear-unless-requires
-    search-zeroed-requires
+    search-accepted-requires
     same-length
     returns-2)
