@@ -10,8 +10,8 @@ use Rattle.rules.specs.declared.Record.{Record}
 use Rattle.rules.specs.declared.Terms.{Terms}
 use Rattle.rules.specs.declared.Ask.{Ask}
 use Rattle.rules.specs.Bodies.{Body, cornerPlace, askOf}
-use Rattle.bodies.specs.declared.Point.{Point}
-use Rattle.bodies.specs.declared.Four.{Four}
+use Rattle.bodies.specs.declared.asking.Point.{Point}
+use Rattle.bodies.specs.declared.asking.Four.{Four}
 
 -- x, y, z from a place on
 abbrev pub pointAt : List ℤ → ℕ → Point

@@ -1,6 +1,6 @@
 -- Every query checked in one pass over the coordinates (`onePass`), which is R-6's plain rule (`one-pass`).
 -- Assumes nothing.
-use Prim.Native.Nat.{ℕ, zero, suc, _*_, _<_}
+use Prim.Native.Nat.{ℕ, zero, suc, _*_, _≤_, _<_}
 use mathlib.Core.Path.{_≡_, refl, sym, ap, _∙_}
 use mathlib.Core.Bool.{Bool, true, false, cond, _&&_, and-eq-true-iff}
 use native.Mathlib.Omega.{arith}
@@ -32,17 +32,18 @@ taken : (x r rest : ℕ) → x ≡ suc r → orElse x rest ≡ suc r
 taken x r rest e = ap (λ (n : ℕ). orElse n rest) e
 
 -- what a body is known to be
-record Known (m : Body) : Type 0 where
-  some : 0 < m .count
-  start : length (m .start) ≡ 9 * m .count
-  end : length (m .end) ≡ 9 * m .count
+pub record Known (m : Body) : Type 0 where
+  pub some : 0 < m .count
+  pub few : m .count ≤ 256
+  pub start : length (m .start) ≡ 9 * m .count
+  pub end : length (m .end) ≡ 9 * m .count
 
-known : (m : Body) → isBody m ≡ true → Known m
+pub known : (m : Body) → isBody m ≡ true → Known m
 known m e =
     let two = and-eq-true-iff (between 1 256 (m .count) && eqb (length (m .start)) (9 * m .count)) (eqb (length (m .end)) (9 * m .count)) .0 e in
     let one = and-eq-true-iff (between 1 256 (m .count)) (eqb (length (m .start)) (9 * m .count)) .0 (two .0) in
     let n = and-eq-true-iff (leb 1 (m .count)) (leb (m .count) 256) .0 (one .0) in
-    record { some = leb-true 1 (m .count) (n .0); start = eqb-true (length (m .start)) (9 * m .count) (one .1); end = eqb-true (length (m .end)) (9 * m .count) (two .1) }
+    record { some = leb-true 1 (m .count) (n .0); few = leb-true (m .count) 256 (n .1); start = eqb-true (length (m .start)) (9 * m .count) (one .1); end = eqb-true (length (m .end)) (9 * m .count) (two .1) }
 
 right : (m : Body) → isRight m ≡ true → RightBody m
 right m e = let h = and-eq-true-iff (every isCoordinate (m .start)) (every isCoordinate (m .end)) .0 e in record { start = h .0; end = h .1 }

@@ -3,3 +3,4 @@ pub mod Asking
 pub mod OnePass
 pub mod Coordinates
 pub mod Check
+pub mod Walk

@@ -1,196 +1,26 @@
-// Two bodies of triangles, a gangway and a hull: fifteen queries a triangle pair.
+// Two bodies of triangles, a gangway and a hull: fifteen queries a triangle pair, the least time and the sum of counts.
 ghost use mathlib.Core.Path.{_≡_};
-ghost use Prim.Native.Nat.{_+_, _*_, _-_, _≤_, _<_};
+ghost use Prim.Native.Nat.{_+_, _≤_};
 ghost use lib.ListN.{length};
+ghost use Rattle.rules.specs.declared.BodyAnswer.the-variants.{Clear};
 ghost use Rattle.rules.specs.Numbers.{isCoordinate};
 ghost use Rattle.rules.specs.Refusals.{every};
-ghost use Rattle.rules.specs.Bodies.{isBody, face, edges};
-ghost use Rattle.triangles.specs.Members.{askAt};
-ghost use Rattle.bodies.specs.Asking.{body, pointAt, cornerAt, fourAt, pointsOf, after, There, Corners, QueryIs};
+ghost use Rattle.rules.specs.Answers.{hasMoment};
+ghost use Rattle.rules.specs.Bodies.{isBody, isLess, sumOf, counted, pairQueries, queriesOf, bodyRefusal, bodySearch, queueAfterBodies};
+ghost use Rattle.triangles.specs.Members.{asked, askAt};
+ghost use Rattle.bodies.specs.Asking.{body};
+ghost use Rattle.bodies.specs.Walk.{positions, SumRoom, HeardIs, OfQuery, OfPair, OfRow, OfBodies, Heard, queryAlone, rowQueries};
+use answers::numbers;
+use asking::query_at;
 use refusals::is_coordinate;
-use rules::Ask;
-use rules::Record;
+use refusals::search_refusal;
+use rules::Answer;
+use rules::BodyAnswer;
 use rules::Terms;
+use rules::Told;
+use search::search_accepted;
 
-pub struct Point {
-    pub x: i32,
-    pub y: i32,
-    pub z: i32,
-}
-
-// A query's four points at one moment.
-pub struct Four {
-    pub p: Point,
-    pub q: Point,
-    pub r: Point,
-    pub s: Point,
-}
-
-fn face(p: usize, v1: usize, v2: usize, v3: usize) -> Ask
-    ensures { λ k. ⌜ k ≡ face p v1 v2 v3 ⌝ }
-{
-    Ask {
-        kind: 1,
-        p,
-        q: v1,
-        r: v2,
-        s: v3,
-    }
-}
-
-fn edges(p1: usize, p2: usize, p3: usize, p4: usize) -> Ask
-    ensures { λ k. ⌜ k ≡ edges p1 p2 p3 p4 ⌝ }
-{
-    Ask {
-        kind: 2,
-        p: p1,
-        q: p2,
-        r: p3,
-        s: p4,
-    }
-}
-
-// The corner that an edge ends at, by the one it starts at: edges 12, 23, 31.
-fn after(n: usize) -> usize
-    requires { ⌜ n < 3 ⌝ }
-    ensures { λ r. ⌜ r ≡ after n ⌝ }
-    ensures { λ r. ⌜ r < 3 ⌝ }
-{
-    if n == 2 { 0 } else { n + 1 }
-}
-
-// The fifteen, counted from 0 here: corners 0, 1, 2 are A's and 3, 4, 5 are B's.
-fn ask_at(k: usize) -> Ask
-    requires { ⌜ k < 15 ⌝ }
-    ensures { λ r. ⌜ r ≡ askAt k ⌝ }
-    ensures { λ r. ⌜ Corners r ⌝ }
-{
-    if k < 3 {
-        return face(k, 3, 4, 5);
-    }
-    if k < 6 {
-        return face(k, 0, 1, 2);
-    }
-    let e = (k - 6) / 3;
-    let f = (k - 6) % 3;
-    edges(e, after(e), 3 + f, 3 + after(f))
-}
-
-fn point_at(s: &[i32], at: usize) -> Point
-    requires { ⌜ at + 3 ≤ length (now s) ⌝ }
-    ensures { λ r. ⌜ r ≡ pointAt (now (s .entry)) at ⌝ }
-{
-    Point {
-        x: s[at],
-        y: s[at + 1],
-        z: s[at + 2],
-    }
-}
-
-// A corner of triangle i of A, or of triangle j of B, at the moment of the positions a and b.
-fn corner_at(a: &[i32], b: &[i32], i: usize, j: usize, n: usize) -> Point
-    requires { ⌜ There (now a) (now b) i j × (n < 6) ⌝ }
-    ensures { λ r. ⌜ r ≡ cornerAt (now (a .entry)) (now (b .entry)) i j n ⌝ }
-{
-    if n < 3 {
-        return point_at(a, 9 * i + 3 * n);
-    }
-    point_at(b, 9 * j + 3 * (n - 3))
-}
-
-fn four_at(a: &[i32], b: &[i32], i: usize, j: usize, k: Ask) -> Four
-    requires { ⌜ There (now a) (now b) i j × Corners k ⌝ }
-    ensures { λ r. ⌜ r ≡ fourAt (now (a .entry)) (now (b .entry)) i j k ⌝ }
-{
-    Four {
-        p: corner_at(a, b, i, j, k.p),
-        q: corner_at(a, b, i, j, k.q),
-        r: corner_at(a, b, i, j, k.r),
-        s: corner_at(a, b, i, j, k.s),
-    }
-}
-
-fn points_of(f: Four, g: Four) -> [i32; 24]
-    ensures { λ r. ⌜ r ≡ pointsOf f g ⌝ }
-{
-    [
-        f.p.x,
-        f.p.y,
-        f.p.z,
-        f.q.x,
-        f.q.y,
-        f.q.z,
-        f.r.x,
-        f.r.y,
-        f.r.z,
-        f.s.x,
-        f.s.y,
-        f.s.z,
-        g.p.x,
-        g.p.y,
-        g.p.z,
-        g.q.x,
-        g.q.y,
-        g.q.z,
-        g.r.x,
-        g.r.y,
-        g.r.z,
-        g.s.x,
-        g.s.y,
-        g.s.z,
-    ]
-}
-
-// A query of the pair i, j as the search takes it.
-fn query_of(
-    w: Terms,
-    a0: &[i32],
-    a1: &[i32],
-    b0: &[i32],
-    b1: &[i32],
-    i: usize,
-    j: usize,
-    k: Ask,
-) -> Record
-    requires { ⌜ There (now a0) (now b0) i j × There (now a1) (now b1) i j × Corners k ⌝ }
-    ensures { λ r. ⌜ QueryIs w (now (a0 .entry)) (now (a1 .entry)) (now (b0 .entry)) (now (b1 .entry)) i j k r ⌝ }
-{
-    let start = four_at(a0, b0, i, j, k);
-    let end = four_at(a1, b1, i, j, k);
-    let points = points_of(start, end);
-    Record {
-        kind: k.kind,
-        flags: 0,
-        byte2: 0,
-        byte3: 0,
-        id: 0,
-        dx: w.dx,
-        dy: w.dy,
-        dz: w.dz,
-        tolerance: w.tolerance,
-        budget: w.budget,
-        spare: 0,
-        points,
-    }
-}
-
-// Query k, from 1, of the pair i, j.
-pub fn query_at(
-    w: Terms,
-    a0: &[i32],
-    a1: &[i32],
-    b0: &[i32],
-    b1: &[i32],
-    i: usize,
-    j: usize,
-    k: usize,
-) -> Record
-    requires { ⌜ There (now a0) (now b0) i j × There (now a1) (now b1) i j × (1 ≤ k) × (k ≤ 15) ⌝ }
-    ensures { λ r. ⌜ QueryIs w (now (a0 .entry)) (now (a1 .entry)) (now (b0 .entry)) (now (b1 .entry)) i j (askAt (k - 1)) r ⌝ }
-{
-    let ask = ask_at(k - 1);
-    query_of(w, a0, a1, b0, b1, i, j, ask)
-}
+pub mod asking; // asking.rt: one query of a triangle pair
 
 // ---- every query checked, in one pass over the coordinates
 
@@ -214,4 +44,212 @@ fn is_body(count: usize, start: &[i32], end: &[i32]) -> bool
         return false;
     }
     (1 <= count) & (start.len() == 9 * count) & (end.len() == 9 * count)
+}
+
+// The number of the first refused query, or 21. Terms and queue are the same for all queries, so only the first is asked for them.
+pub fn body_refusal(
+    w: Terms,
+    m: usize,
+    a0: &[i32],
+    a1: &[i32],
+    n: usize,
+    b0: &[i32],
+    b1: &[i32],
+    words: usize,
+) -> u32
+    ensures { λ r. ⌜ r ≡ bodyRefusal w (body m (now (a0 .entry)) (now (a1 .entry))) (body n (now (b0 .entry)) (now (b1 .entry))) words ⌝ }
+{
+    let bodies = is_body(m, a0, a1) & is_body(n, b0, b1);
+    if !bodies {
+        return 21;
+    }
+    let number = search_refusal(query_at(w, a0, a1, b0, b1, 0, 0, 0), words);
+    if number != 0 {
+        return number;
+    }
+    let right = (are_positions(a0) & are_positions(a1)) & (are_positions(b0) & are_positions(b1));
+    if right { 0 } else { 3 }
+}
+
+// ---- what the queries come to
+
+fn has_moment(n: Told) -> bool
+    ensures { λ r. ⌜ r ≡ hasMoment n ⌝ }
+{
+    let word = n.word;
+    (word == 1) | (word == 3) | (word == 4) | (word == 5)
+}
+
+fn is_less(t: u32, sofar: BodyAnswer) -> bool
+    ensures { λ r. ⌜ r ≡ isLess t sofar ⌝ }
+{
+    match sofar {
+        BodyAnswer::Clear(sum) => true,
+        BodyAnswer::Least {
+            t: least,
+            a,
+            b,
+            query,
+            word,
+            excess,
+            count,
+        } => t < least,
+        BodyAnswer::Refused(number) => false,
+    }
+}
+
+fn sum_of(sofar: BodyAnswer) -> u64
+    ensures { λ r. ⌜ r ≡ sumOf sofar ⌝ }
+{
+    match sofar {
+        BodyAnswer::Clear(sum) => sum,
+        BodyAnswer::Least {
+            t,
+            a,
+            b,
+            query,
+            word,
+            excess,
+            count,
+        } => count,
+        BodyAnswer::Refused(number) => 0,
+    }
+}
+
+fn counted(n: u64, sofar: BodyAnswer) -> BodyAnswer
+    requires { ⌜ sumOf sofar + n ≤ 18446744073709551615 ⌝ }
+    ensures { λ r. ⌜ r ≡ counted n sofar ⌝ }
+{
+    match sofar {
+        BodyAnswer::Clear(sum) => BodyAnswer::Clear(sum + n),
+        BodyAnswer::Least {
+            t,
+            a,
+            b,
+            query,
+            word,
+            excess,
+            count,
+        } => BodyAnswer::Least {
+            t,
+            a,
+            b,
+            query,
+            word,
+            excess,
+            count: count + n,
+        },
+        BodyAnswer::Refused(number) => BodyAnswer::Refused(number),
+    }
+}
+
+// What was heard so far, and one query's answer more: it takes the place of the least only with a time that is less.
+fn heard(sofar: BodyAnswer, a: u32, b: u32, query: u32, n: Told) -> BodyAnswer
+    requires { ⌜ SumRoom 1 sofar ⌝ }
+    ensures { λ r. ⌜ HeardIs sofar a b query n r ⌝ }
+{
+    if has_moment(n) & is_less(n.t, sofar) {
+        let least = BodyAnswer::Least {
+            t: n.t,
+            a,
+            b,
+            query,
+            word: n.word,
+            excess: n.excess,
+            count: sum_of(sofar),
+        };
+        return counted(n.count as u64, least);
+    }
+    counted(n.count as u64, sofar)
+}
+
+// Query k of the pair i, j, from 0.
+fn hear_query(
+    w: Terms,
+    a0: &[i32],
+    a1: &[i32],
+    b0: &[i32],
+    b1: &[i32],
+    i: usize,
+    j: usize,
+    k: usize,
+    queue: &mut [u64],
+    sofar: BodyAnswer,
+) -> BodyAnswer
+    requires { ⌜ OfQuery w (now a0) (now a1) (now b0) (now b1) i j k (now queue) sofar ⌝ }
+    ensures { λ r. ⌜ Heard 1 (queryAlone w (positions (now (a0 .entry)) (now (a1 .entry))) (positions (now (b0 .entry)) (now (b1 .entry))) i j k) (now (queue .entry)) (now (queue .exit)) sofar r ⌝ }
+{
+    let answer = search_accepted(query_at(w, a0, a1, b0, b1, i, j, k), queue);
+    heard(sofar, i as u32, j as u32, (1 + k) as u32, numbers(answer))
+}
+
+// The fifteen queries of the pair i, j.
+fn hear_pair(
+    w: Terms,
+    a0: &[i32],
+    a1: &[i32],
+    b0: &[i32],
+    b1: &[i32],
+    i: usize,
+    j: usize,
+    queue: &mut [u64],
+    first: BodyAnswer,
+) -> BodyAnswer
+    requires { ⌜ OfPair w (now a0) (now a1) (now b0) (now b1) i j (now queue) first ⌝ }
+    ensures { λ r. ⌜ Heard 15 (pairQueries w (positions (now (a0 .entry)) (now (a1 .entry))) (positions (now (b0 .entry)) (now (b1 .entry))) i j) (now (queue .entry)) (now (queue .exit)) first r ⌝ }
+{
+    let mut sofar = first;
+    let mut k = 0;
+    while k < 15 {
+        sofar = hear_query(w, a0, a1, b0, b1, i, j, k, queue, sofar);
+        k += 1;
+    }
+    sofar
+}
+
+// Triangle i of A with each of B.
+fn hear_row(
+    w: Terms,
+    a0: &[i32],
+    a1: &[i32],
+    i: usize,
+    n: usize,
+    b0: &[i32],
+    b1: &[i32],
+    queue: &mut [u64],
+    first: BodyAnswer,
+) -> BodyAnswer
+    requires { ⌜ OfRow w (now a0) (now a1) i n (now b0) (now b1) (now queue) first ⌝ }
+    ensures { λ r. ⌜ Heard 3840 (rowQueries w (positions (now (a0 .entry)) (now (a1 .entry))) (positions (now (b0 .entry)) (now (b1 .entry))) i n) (now (queue .entry)) (now (queue .exit)) first r ⌝ }
+{
+    let mut sofar = first;
+    let mut j = 0;
+    while j < n {
+        sofar = hear_pair(w, a0, a1, b0, b1, i, j, queue, sofar);
+        j += 1;
+    }
+    sofar
+}
+
+// Every triangle of A with each of B, in a queue of zeros.
+fn hear_bodies(
+    w: Terms,
+    m: usize,
+    a0: &[i32],
+    a1: &[i32],
+    n: usize,
+    b0: &[i32],
+    b1: &[i32],
+    queue: &mut [u64],
+) -> BodyAnswer
+    requires { ⌜ OfBodies w m (now a0) (now a1) n (now b0) (now b1) (now queue) ⌝ }
+    ensures { λ r. ⌜ Heard 983040 (queriesOf w (body m (now (a0 .entry)) (now (a1 .entry))) (body n (now (b0 .entry)) (now (b1 .entry)))) (now (queue .entry)) (now (queue .exit)) (Clear 0) r ⌝ }
+{
+    let mut sofar = BodyAnswer::Clear(0);
+    let mut i = 0;
+    while i < m {
+        sofar = hear_row(w, a0, a1, i, n, b0, b1, queue, sofar);
+        i += 1;
+    }
+    sofar
 }

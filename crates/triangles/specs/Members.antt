@@ -24,7 +24,7 @@ abbrev pub asked : Terms → Body → Body → ℕ → ℕ → ℕ → Ask → A
 asked w a b i j n k = record { a = i; b = j; query = n; ask = askOf w a b i j k }
 
 module _ (P : Asked → Type 0) where
-  parts : (ps qs : List Asked) → All P (ps ++ qs) → All P ps × All P qs
+  pub parts : (ps qs : List Asked) → All P (ps ++ qs) → All P ps × All P qs
   unfolding All
   parts [] qs h = (tt, h)
   parts (p ∷ ps) qs h = let r = parts ps qs (h .1) in ((h .0, r .0), r .1)

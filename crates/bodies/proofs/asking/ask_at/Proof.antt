@@ -1,4 +1,4 @@
--- `bodies::ask_at` meets its contract: the fifteen by their number. Assumes nothing.
+-- `bodies::asking::ask_at` meets its contract: the fifteen by their number. Assumes nothing.
 use borrow.Author.Needs.{needs}
 use Prim.Native.Nat.{ℕ, _+_, _-_, _/_, _%_, _<_}
 use mathlib.Core.Path.{_≡_, sym, ap, subst, _∙_}
@@ -7,8 +7,8 @@ use Rattle.rules.specs.Bodies.{face, edges}
 use Rattle.triangles.specs.Members.{askAt}
 use Rattle.bodies.specs.Asking.{after, Corners}
 use Rattle.bodies.proofs.Fifteen.{faces-of-A, faces-of-B, edges-at, corners-at}
-use Rattle.bodies.proofs.ask_at.Statement.{statement}
-use Rattle.bodies.proofs.ask_at.Tie as tie
+use Rattle.bodies.proofs.asking.ask_at.Statement.{statement}
+use Rattle.bodies.proofs.asking.ask_at.Tie as tie
 
 face-requires : tie.Need-face-requires
 face-requires c κs = search needs

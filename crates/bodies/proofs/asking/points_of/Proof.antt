@@ -1,4 +1,4 @@
--- `bodies::points_of` meets its contract: what is read is what is written. Assumes nothing.
+-- `bodies::asking::points_of` meets its contract: what is read is what is written. Assumes nothing.
 use Prim.Native.Nat.{_<_, _^_}
 use mathlib.Core.Path.{_≡_}
 use lib.IntN.{ℤ}
@@ -6,8 +6,8 @@ use lib.Signed.{mag}
 use mir.Syntax.{w32}
 use mir.Val.{toZ, ofZ}
 use mir.Facts.{toZ-ofZ}
-use Rattle.bodies.proofs.points_of.Statement.{statement}
-use Rattle.bodies.proofs.points_of.Tie as tie
+use Rattle.bodies.proofs.asking.points_of.Statement.{statement}
+use Rattle.bodies.proofs.asking.points_of.Tie as tie
 
 -- a field that is read is the number that it holds
 back : (z : ℤ) → mag z < 2 ^ 31 → toZ w32 (ofZ w32 z) ≡ z

@@ -1,9 +1,9 @@
--- `bodies::query_of` meets its contract: the points of both moments, and the terms. Assumes nothing.
+-- `bodies::asking::query_of` meets its contract: the points of both moments, and the terms. Assumes nothing.
 use borrow.Author.Needs.{needs}
 use Rattle.rules.specs.Bodies.{askOf}
 use Rattle.bodies.specs.Asking.{fourAt, cornerAt}
-use Rattle.bodies.proofs.query_of.Statement.{statement}
-use Rattle.bodies.proofs.query_of.Tie as tie
+use Rattle.bodies.proofs.asking.query_of.Statement.{statement}
+use Rattle.bodies.proofs.asking.query_of.Tie as tie
 
 four-at-requires : tie.Need-four-at-requires
 four-at-requires c κs = search needs

@@ -1,8 +1,8 @@
--- `bodies::four_at` meets its contract: each point is a corner. Assumes nothing.
+-- `bodies::asking::four_at` meets its contract: each point is a corner. Assumes nothing.
 use borrow.Author.Needs.{needs}
 use Rattle.bodies.specs.Asking.{fourAt}
-use Rattle.bodies.proofs.four_at.Statement.{statement}
-use Rattle.bodies.proofs.four_at.Tie as tie
+use Rattle.bodies.proofs.asking.four_at.Statement.{statement}
+use Rattle.bodies.proofs.asking.four_at.Tie as tie
 
 corner-at-requires : tie.Need-corner-at-requires
 corner-at-requires c κs = search needs

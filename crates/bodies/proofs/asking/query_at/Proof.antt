@@ -1,11 +1,8 @@
--- `bodies::query_at` meets its contract. Assumes nothing.
+-- `bodies::asking::query_at` meets its contract. Assumes nothing.
 use borrow.Author.Needs.{needs}
 use mathlib.Core.Path.{sym}
-use Rattle.bodies.proofs.query_at.Statement.{statement}
-use Rattle.bodies.proofs.query_at.Tie as tie
-
-sub-ask-at : tie.Need-sub-ask-at
-sub-ask-at c = search needs
+use Rattle.bodies.proofs.asking.query_at.Statement.{statement}
+use Rattle.bodies.proofs.asking.query_at.Tie as tie
 
 ask-at-requires : tie.Need-ask-at-requires
 ask-at-requires c κs = search needs
@@ -17,4 +14,4 @@ returns : tie.Need-returns
 returns c = rw (sym (c .before .ask-at .ensures .0)) (c .query-of .ensures)
 
 pub query-at-spec : {M : Type 1} → statement M
-query-at-spec = tie.close (tie.spec sub-ask-at ask-at-requires query-of-requires returns)
+query-at-spec = tie.close (tie.spec ask-at-requires query-of-requires returns)

@@ -1,9 +1,9 @@
--- `bodies::after` meets its contract. Assumes nothing.
+-- `bodies::asking::after` meets its contract. Assumes nothing.
 use borrow.Author.Needs.{needs}
 use native.Mathlib.Omega.{arith}
 use borrow.Author.Tests.{ne-eqb}
-use Rattle.bodies.proofs.after.Statement.{statement}
-use Rattle.bodies.proofs.after.Tie as tie
+use Rattle.bodies.proofs.asking.after.Statement.{statement}
+use Rattle.bodies.proofs.asking.after.Tie as tie
 
 add-result : tie.Need-add-result
 add-result c = search needs

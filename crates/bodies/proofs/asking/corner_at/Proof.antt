@@ -1,9 +1,9 @@
--- `bodies::corner_at` meets its contract: the corner is A's or B's. Assumes nothing.
+-- `bodies::asking::corner_at` meets its contract: the corner is A's or B's. Assumes nothing.
 use borrow.Author.Needs.{needs}
 use borrow.Author.Tests.{lt-ltb, le-ltb}
 use Rattle.bodies.specs.Asking.{cornerAt}
-use Rattle.bodies.proofs.corner_at.Statement.{statement}
-use Rattle.bodies.proofs.corner_at.Tie as tie
+use Rattle.bodies.proofs.asking.corner_at.Statement.{statement}
+use Rattle.bodies.proofs.asking.corner_at.Tie as tie
 
 mul-point-at : tie.Need-mul-point-at
 mul-point-at c = search needs

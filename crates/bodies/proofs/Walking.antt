@@ -1,0 +1,126 @@
+-- A list of queries heard part by part: what is left gives the whole list's answer.
+--     Going        the invariant of all three loops
+--     going-asks   the next part may be heard, and `going-more` when it was
+--     pair-next, each-next   the next part of a pair's queries, of a row's and of the bodies'
+-- Assumes nothing.
+use Prim.Native.Nat.{ℕ, zero, suc, _+_, _*_, _-_, _≤_, _<_}
+use mathlib.Core.Path.{_≡_, refl, sym, ap, subst, _∙_}
+use mathlib.Core.List.{List, [], _∷_, _++_}
+use native.Mathlib.Omega.{arith}
+use lib.IntN.{ℤ}
+use lib.ListN.{length, drop, replicate}
+use lib.Seq.{drop-cons}
+use Rattle.rules.specs.declared.Told.{Told}
+use Rattle.rules.specs.declared.Terms.{Terms}
+use Rattle.rules.specs.declared.Ask.{Ask}
+use Rattle.rules.specs.declared.BodyAnswer.{BodyAnswer}
+use Rattle.rules.specs.Answers.{told}
+use Rattle.rules.specs.Refusals.{searchRefusal}
+use Rattle.rules.specs.Search.{search as searched}
+use Rattle.rules.specs.Bodies.{Body, Asked, face, fifteen, askOf, askedFrom, pairQueries, eachFrom, queriesOf, heard, hearAll}
+use Rattle.triangles.specs.Members.{All, askAt, parts}
+use Rattle.triangles.specs.InOrder.{hearAll-append}
+use Rattle.bodies.specs.Asking.{body}
+use Rattle.bodies.specs.Walk.{positions, SumRoom, Grows, ToHear, Heard, queryAlone, rowQueries}
+
+-- ---- one query
+
+pub heard-one : (words : ℕ) (sofar : BodyAnswer) (q : Asked) (n : Told) (r : BodyAnswer) → n ≡ told (searched (q .ask) words) → r ≡ heard sofar q n
+    → r ≡ hearAll words sofar (q ∷ [])
+unfolding hearAll
+heard-one words sofar q n r e h = h ∙ ap (heard sofar q) e
+
+pub not-refused : (words : ℕ) (q : Asked) → All (λ q. searchRefusal (q .ask) words ≡ 0) (q ∷ []) → searchRefusal (q .ask) words ≡ 0
+unfolding All
+not-refused words q h = h .0
+
+-- ---- part by part
+
+pub record Going (n : ℕ) (all left : List Asked) (before queue : List ℕ) (first sofar : BodyAnswer) : Type 0 where
+  pub same : hearAll (length before) first all ≡ hearAll (length before) sofar left
+  pub none : All (λ q. searchRefusal (q .ask) (length before) ≡ 0) left
+  pub kept : queue ≡ before
+  pub grows : Grows n first sofar
+
+pub going-none : (m : ℕ) (all left : List Asked) (queue : List ℕ) (first : BodyAnswer) → left ≡ all → ToHear m all queue first → Going 0 all left queue queue first first
+going-none m all left queue first e h =
+    subst (λ (l : List Asked). Going 0 all l queue queue first first) (sym e) (record { same = refl; none = h .none; kept = refl; grows = omega arith })
+
+module _ (n m : ℕ) (all left ps qs : List Asked) (before queue : List ℕ) (first sofar : BodyAnswer) (g : Going n all left before queue first sofar) (e : left ≡ ps ++ qs) where
+  none-left : All (λ q. searchRefusal (q .ask) (length before) ≡ 0) (ps ++ qs)
+  none-left = subst (All (λ q. searchRefusal (q .ask) (length before) ≡ 0)) e (g .none)
+
+  pub going-asks : (room : ℕ) → n + m ≤ room → before ≡ replicate (length before) 0 → SumRoom room first → ToHear m ps queue sofar
+  going-asks room l z s =
+      subst (λ (w : List ℕ). ToHear m ps w sofar) (sym (g .kept))
+      (record { none = parts (λ q. searchRefusal (q .ask) (length before) ≡ 0) ps qs none-left .0; zero = z; room = omega (arith, g .grows, s, l) })
+
+  pub going-more : (next : ℕ) → n + m ≤ next → (queue′ : List ℕ) (r : BodyAnswer) → Heard m ps queue queue′ sofar r → Going next all qs before queue′ first r
+  going-more next l queue′ r h =
+      let s : r ≡ hearAll (length before) sofar ps = h .says ∙ ap (λ (w : List ℕ). hearAll (length w) sofar ps) (g .kept) in
+      record {
+        same = g .same ∙ ap (hearAll (length before) sofar) e ∙ hearAll-append (length before) sofar ps qs ∙ ap (λ (x : BodyAnswer). hearAll (length before) x qs) (sym s);
+        none = parts (λ q. searchRefusal (q .ask) (length before) ≡ 0) ps qs none-left .1;
+        kept = h .kept ∙ g .kept;
+        grows = omega (arith, g .grows, h .grows, l);
+      }
+
+pub going-all : (n m : ℕ) (all left : List Asked) (before queue : List ℕ) (first sofar : BodyAnswer) → Going n all left before queue first sofar → left ≡ [] → n ≤ m
+    → Heard m all before queue first sofar
+unfolding hearAll
+going-all n m all left before queue first sofar g e l =
+    record { says = sym (g .same ∙ ap (hearAll (length before) sofar) e); kept = g .kept; grows = omega (arith, g .grows, l) }
+
+-- ---- what is left of a pair's queries
+
+module _ (w : Terms) (a b : Body) (i j : ℕ) where
+  abbrev pub pairLeft : ℕ → List Asked
+  pairLeft k = askedFrom w a b i j (1 + k) (drop k fifteen)
+
+  pub pair-next : (k : ℕ) → k < 15 → pairLeft k ≡ queryAlone w a b i j k ++ pairLeft (k + 1)
+  unfolding askedFrom
+  pair-next k l =
+      let n : 1 + k + 1 ≡ 1 + (k + 1) = omega arith in
+      let s : suc k ≡ k + 1 = omega arith in
+      ap (askedFrom w a b i j (1 + k)) (drop-cons fifteen k (face 0 3 4 5) l)
+      ∙ ap (λ (x : ℕ). queryAlone w a b i j k ++ askedFrom w a b i j x (drop (suc k) fifteen)) n
+      ∙ ap (λ (x : ℕ). queryAlone w a b i j k ++ askedFrom w a b i j (1 + (k + 1)) (drop x fifteen)) s
+
+  pub pair-end : (k : ℕ) → k ≡ 15 → pairLeft k ≡ []
+  unfolding askedFrom
+  pair-end k e = ap pairLeft e
+
+-- ---- what is left of lists one after the other
+
+module _ (n : ℕ) (f : ℕ → List Asked) where
+  abbrev pub eachLeft : ℕ → List Asked
+  eachLeft i = eachFrom i (n - i) f
+
+  pub each-start : eachLeft 0 ≡ eachFrom 0 n f
+  each-start = let e : n - 0 ≡ n = omega arith in ap (λ (x : ℕ). eachFrom 0 x f) e
+
+  pub each-next : (i : ℕ) → i < n → eachLeft i ≡ f i ++ eachLeft (i + 1)
+  unfolding eachFrom
+  each-next i l = let e : n - i ≡ suc (n - (i + 1)) = omega arith in ap (λ (x : ℕ). eachFrom i x f) e
+
+  pub each-end : (i : ℕ) → i ≡ n → eachLeft i ≡ []
+  unfolding eachFrom
+  each-end i e = let z : n - i ≡ 0 = omega (arith, e) in ap (λ (x : ℕ). eachFrom i x f) z
+
+-- ---- how many triangles there are has no part in a query
+
+each-same : (f g : ℕ → List Asked) → ((x : ℕ) → f x ≡ g x) → (i n : ℕ) → eachFrom i n f ≡ eachFrom i n g
+unfolding eachFrom
+each-same f g e i zero = refl
+each-same f g e i (suc n) = ap (λ (x : List Asked). x ++ eachFrom (i + 1) n f) (e i) ∙ ap (λ (x : List Asked). g i ++ x) (each-same f g e (i + 1) n)
+
+module _ (w : Terms) (m : ℕ) (a0 a1 : List ℤ) (n : ℕ) (b0 b1 : List ℤ) where
+  pair-same : (i j k : ℕ) (ks : List Ask) → askedFrom w (body m a0 a1) (body n b0 b1) i j k ks ≡ askedFrom w (positions a0 a1) (positions b0 b1) i j k ks
+  unfolding askedFrom askOf
+  pair-same i j k [] = refl
+  pair-same i j k (x ∷ ks) =
+      ap (λ (l : List Asked). record { a = i; b = j; query = k; ask = askOf w (positions a0 a1) (positions b0 b1) i j x } ∷ l) (pair-same i j (k + 1) ks)
+
+  pub queries-same : queriesOf w (body m a0 a1) (body n b0 b1) ≡ eachFrom 0 m (λ i. rowQueries w (positions a0 a1) (positions b0 b1) i n)
+  unfolding queriesOf
+  queries-same = each-same _ _ (λ i. each-same _ _ (λ j. pair-same i j 1 fifteen) 0 n) 0 m
