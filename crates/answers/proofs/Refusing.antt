@@ -10,7 +10,7 @@ use lib.ListN.{length, set}
 use Rattle.rules.specs.Refusals.{Case, first, orElse}
 use Rattle.rules.specs.QueryFile.{fileForm, recordCount, openCases, openRefusal, put, putUnless}
 use Rattle.refusals.specs.Cases.{first-then}
-use Rattle.answers.specs.Walk.{short, queueUnless, Does, Counted, oneRefusal, allRefusal, countRefusal}
+use Rattle.answers.specs.Walk.{short, Counted, oneRefusal, allRefusal, countRefusal}
 
 module _ (s : List ℕ) (more : List Case) where
   refused-first : (k : ℕ) → openRefusal (fileForm s) s ≡ k → (k ≡ 0 → ⊥) → first (openCases (fileForm s) s ++ more) ≡ k
@@ -70,16 +70,6 @@ module _ (s out : List ℕ) (e : openRefusal (fileForm s) s ≡ 0) where
   count-good k = sym (opens-first s (short out 1 ∷ []) e ∙ rw (le-ltb (length out) 1 k))
 
 -- ---- what is done then
-
-pub refuses : (number : ℕ) {refusal : ℕ} (numbers after queue out : List ℕ) → number ≡ refusal → (number ≡ 0 → ⊥) → Does refusal numbers after queue queue out out number
-unfolding putUnless queueUnless
-refuses zero numbers after queue out e h = absurd (h refl)
-refuses (suc k) numbers after queue out e h = record { says = e; told = refl; left = refl }
-
-pub answers : {refusal : ℕ} {numbers after queue queue′ out out′ : List ℕ} → 0 ≡ refusal → out′ ≡ put out 0 numbers → queue′ ≡ after
-    → Does refusal numbers after queue queue′ out out′ 0
-unfolding putUnless queueUnless
-answers e t l = record { says = e; told = t; left = l }
 
 pub refuses-count : (s out : List ℕ) (number : ℕ) → number ≡ countRefusal s out → (number ≡ 0 → ⊥) → Counted s out out number
 unfolding putUnless

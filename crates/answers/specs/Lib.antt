@@ -2,3 +2,4 @@
 pub mod Eight
 pub mod Walk
 pub mod Step
+pub mod Doing

@@ -83,7 +83,7 @@ pub fn numbers(answer: Answer) -> Told
     }
 }
 
-fn write_four(out: &mut [u32], at: usize, a: u32, b: u32, c: u32, d: u32)
+pub fn write_four(out: &mut [u32], at: usize, a: u32, b: u32, c: u32, d: u32)
     requires { ⌜ at + 4 ≤ length (now out) ⌝ }
     ensures { λ _. ⌜ now (out .exit) ≡ put (now (out .entry)) at (a ∷ b ∷ c ∷ d ∷ []) ⌝ }
 {

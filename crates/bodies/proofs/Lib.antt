@@ -3,3 +3,4 @@ pub mod Fifteen
 pub mod Walking
 pub mod Hearing
 pub mod Refusing
+pub mod Settling

@@ -9,7 +9,7 @@ use Rattle.rules.specs.declared.Terms.{Terms}
 use Rattle.rules.specs.Refusals.{orElse, searchRefusal}
 use Rattle.rules.specs.declared.BodyAnswer.the-variants.{Clear}
 use Rattle.rules.specs.Bodies.{Body, isBody, face, askOf, queriesOf, firstRefused, bodyRefusal, sumOf}
-use Rattle.triangles.specs.InOrder.{none-refused}
+use Rattle.triangles.specs.InOrder.{none-refused, accepted}
 use Rattle.bodies.specs.Asking.{There}
 use Rattle.bodies.specs.Walk.{ToHear}
 use Rattle.bodies.specs.Check.{isRight, onePass, one-pass, Known, known}
@@ -22,7 +22,7 @@ pub turned : {x t : Bool} → not x ≡ t → x ≡ not t
 turned {x = true} e = ap not e
 turned {x = false} e = ap not e
 
-or-else : (n m : ℕ) → (n ≡ 0 → ⊥) → orElse n m ≡ n
+pub or-else : (n m : ℕ) → (n ≡ 0 → ⊥) → orElse n m ≡ n
 or-else zero m h = absurd (h refl)
 or-else (suc n) m h = refl
 
@@ -63,21 +63,9 @@ module _ (w : Terms) (a b : Body) (words : ℕ) where
 
   -- bodies that are not refused
   module _ (none : bodyRefusal w a b words ≡ 0) where
-    accepted : (t : Bool) (n : ℕ) → cond t n 21 ≡ 0 → (t ≡ true) × (n ≡ 0)
-    accepted true n e = (refl, e)
-    accepted false n e = let z : suc 20 ≡ 0 = e in absurd (omega arith)
-
-    are-bodies : (isBody a && isBody b) ≡ true
-    unfolding bodyRefusal
-    are-bodies = accepted (isBody a && isBody b) (firstRefused words (queriesOf w a b)) none .0
-
     pub known-bodies : Known a × Known b
-    known-bodies = let h = and-eq-true-iff (isBody a) (isBody b) .0 are-bodies in (known a (h .0), known b (h .1))
-
-    none-of-all : firstRefused words (queriesOf w a b) ≡ 0
-    unfolding bodyRefusal
-    none-of-all = accepted (isBody a && isBody b) (firstRefused words (queriesOf w a b)) none .1
+    known-bodies = let h = and-eq-true-iff (isBody a) (isBody b) .0 (accepted w a b words none .0) in (known a (h .0), known b (h .1))
 
 pub all-to-hear : (w : Terms) (a b : Body) (queue : List ℕ) → bodyRefusal w a b (length queue) ≡ 0 → queue ≡ replicate (length queue) 0 → ToHear 983040 (queriesOf w a b) queue (Clear 0)
 unfolding sumOf
-all-to-hear w a b queue e z = record { none = none-refused (length queue) (queriesOf w a b) (none-of-all w a b (length queue) e); zero = z; room = omega arith }
+all-to-hear w a b queue e z = record { none = none-refused (length queue) (queriesOf w a b) (accepted w a b (length queue) e .1); zero = z; room = omega arith }

@@ -4,3 +4,4 @@ pub mod OnePass
 pub mod Coordinates
 pub mod Check
 pub mod Walk
+pub mod Telling

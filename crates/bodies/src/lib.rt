@@ -6,15 +6,18 @@ ghost use Rattle.rules.specs.declared.BodyAnswer.the-variants.{Clear};
 ghost use Rattle.rules.specs.Numbers.{isCoordinate};
 ghost use Rattle.rules.specs.Refusals.{every};
 ghost use Rattle.rules.specs.Answers.{hasMoment};
-ghost use Rattle.rules.specs.Bodies.{isBody, isLess, sumOf, counted, pairQueries, queriesOf, bodyRefusal, bodySearch, queueAfterBodies};
+ghost use Rattle.rules.specs.Bodies.{isBody, isLess, sumOf, counted, pairQueries, queriesOf, bodyRefusal};
 ghost use Rattle.triangles.specs.Members.{asked, askAt};
+ghost use Rattle.rules.specs.QueryFile.{put};
 ghost use Rattle.bodies.specs.Asking.{body};
+ghost use Rattle.bodies.specs.Telling.{low, high, bodyTold, Answered, Tells};
 ghost use Rattle.bodies.specs.Walk.{positions, SumRoom, HeardIs, OfQuery, OfPair, OfRow, OfBodies, Heard, queryAlone, rowQueries};
 use answers::numbers;
+use answers::write_four;
 use asking::query_at;
+use queue::clear;
 use refusals::is_coordinate;
 use refusals::search_refusal;
-use rules::Answer;
 use rules::BodyAnswer;
 use rules::Terms;
 use rules::Told;
@@ -252,4 +255,108 @@ fn hear_bodies(
         i += 1;
     }
     sofar
+}
+
+// Bodies that are not refused: the queue is cleared once, and every query keeps it zero.
+fn walk(
+    w: Terms,
+    m: usize,
+    a0: &[i32],
+    a1: &[i32],
+    n: usize,
+    b0: &[i32],
+    b1: &[i32],
+    queue: &mut [u64],
+) -> BodyAnswer
+    requires { ⌜ bodyRefusal w (body m (now a0) (now a1)) (body n (now b0) (now b1)) (length (now queue)) ≡ 0 ⌝ }
+    ensures { λ r. ⌜ Answered w (body m (now (a0 .entry)) (now (a1 .entry))) (body n (now (b0 .entry)) (now (b1 .entry))) (now (queue .entry)) (now (queue .exit)) r ⌝ }
+{
+    clear(queue);
+    hear_bodies(w, m, a0, a1, n, b0, b1, queue)
+}
+
+// Two bodies: a refusal touches no word of the queue, and after an answer every word is zero.
+pub fn search_bodies(
+    w: Terms,
+    m: usize,
+    a0: &[i32],
+    a1: &[i32],
+    n: usize,
+    b0: &[i32],
+    b1: &[i32],
+    queue: &mut [u64],
+) -> BodyAnswer
+    ensures { λ r. ⌜ Answered w (body m (now (a0 .entry)) (now (a1 .entry))) (body n (now (b0 .entry)) (now (b1 .entry))) (now (queue .entry)) (now (queue .exit)) r ⌝ }
+{
+    let number = body_refusal(w, m, a0, a1, n, b0, b1, queue.len());
+    if number != 0 {
+        return BodyAnswer::Refused(number);
+    }
+    walk(w, m, a0, a1, n, b0, b1, queue)
+}
+
+// ---- an answer in eight numbers
+
+fn low(sum: u64) -> u32
+    ensures { λ r. ⌜ r ≡ low sum ⌝ }
+{
+    (sum % 4294967296) as u32
+}
+
+fn high(sum: u64) -> u32
+    ensures { λ r. ⌜ r ≡ high sum ⌝ }
+{
+    (sum / 4294967296) as u32
+}
+
+// The eight numbers of an answer; a refusal is not told in them.
+fn write_told(out: &mut [u32], answer: BodyAnswer)
+    requires { ⌜ 8 ≤ length (now out) ⌝ }
+    ensures { λ _. ⌜ now (out .exit) ≡ put (now (out .entry)) 0 (bodyTold answer) ⌝ }
+{
+    match answer {
+        BodyAnswer::Clear(sum) => {
+            write_four(out, 0, 2, 0, 0, 0);
+            write_four(out, 4, 0, 0, low(sum), high(sum));
+        }
+        BodyAnswer::Least {
+            t,
+            a,
+            b,
+            query,
+            word,
+            excess,
+            count,
+        } => {
+            write_four(out, 0, word, t, a, b);
+            write_four(out, 4, query, excess, low(count), high(count));
+        }
+        BodyAnswer::Refused(number) => {}
+    }
+}
+
+// Two bodies, told in eight numbers; 21 and the queries' own numbers come before 14.
+pub fn answer_bodies(
+    w: Terms,
+    m: usize,
+    a0: &[i32],
+    a1: &[i32],
+    n: usize,
+    b0: &[i32],
+    b1: &[i32],
+    queue: &mut [u64],
+    out: &mut [u32],
+) -> u32
+    ensures { λ r. ⌜ Tells w (body m (now (a0 .entry)) (now (a1 .entry))) (body n (now (b0 .entry)) (now (b1 .entry))) (now (queue .entry)) (now (queue .exit)) (now (out .entry)) (now (out .exit)) r ⌝ }
+{
+    let number = body_refusal(w, m, a0, a1, n, b0, b1, queue.len());
+    if number != 0 {
+        return number;
+    }
+    if out.len() < 8 {
+        return 14;
+    }
+    let answer = walk(w, m, a0, a1, n, b0, b1, queue);
+    write_told(out, answer);
+    0
 }

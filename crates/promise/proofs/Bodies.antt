@@ -1,7 +1,6 @@
 -- The promises of two bodies: what specs/Bodies.antt states, from demand 3 of each query.
 use Prim.Native.Nat.{ℕ, zero, suc, _+_, _*_, _-_, _≤_, _<_}
 use mathlib.Core.Path.{_≡_, refl, sym, ap, _∙_, subst}
-use mathlib.Core.Bool.{Bool, true, false, cond, _&&_}
 use native.Mathlib.Nat.{le-trans, mul-le-mul-right}
 use native.Mathlib.Omega.{arith}
 use lib.Dec.{T}
@@ -17,9 +16,9 @@ use Rattle.rules.specs.Gap.{Place, OnBodies, Contact}
 use Rattle.rules.specs.Answers.{told, hasMoment}
 use Rattle.rules.specs.Refusals.{searchRefusal}
 use Rattle.rules.specs.Search.{query, search}
-use Rattle.rules.specs.Bodies.{Body, isBody, askOf, queriesOf, firstRefused, bodyRefusal, hearAll, bodyUnless, bodySearch}
+use Rattle.rules.specs.Bodies.{Body, askOf, queriesOf, bodyRefusal, hearAll, bodyUnless, bodySearch}
 use Rattle.triangles.specs.Members.{All, askAt, member}
-use Rattle.triangles.specs.InOrder.{none-refused}
+use Rattle.triangles.specs.InOrder.{none-refused, accepted}
 use Rattle.promise.specs.Promise.{NearContact}
 use Rattle.promise.specs.Bodies.{way, Named, numbered, placeOf, First, NotBefore, NoContact, Holder, BodiesPromised, Demand-bodies, Bodies-refused-exactly}
 use Rattle.promise.proofs.Survive.{touch-close}
@@ -79,18 +78,10 @@ module _ (w : Terms) (a b : Body) (words : ℕ) where
   holder (Refused number) e h = tt
 
   -- ---- refusals
-  checked : bodyRefusal w a b words ≡ 0 → firstRefused words (queriesOf w a b) ≡ 0
-  unfolding bodyRefusal
-  checked e = by (isBody a && isBody b) e
-    where
-      by : (t : Bool) → cond t (firstRefused words (queriesOf w a b)) 21 ≡ 0 → firstRefused words (queriesOf w a b) ≡ 0
-      by true e = e
-      by false e = absurd (omega arith)
-
   promised : (n : ℕ) → bodyRefusal w a b words ≡ n → BodiesPromised w a b words (bodyUnless n answer)
   unfolding bodyUnless
   promised zero e =
-      let f = near (none-refused words (queriesOf w a b) (checked e)) in
+      let f = near (none-refused words (queriesOf w a b) (accepted w a b words e .1)) in
       record { no-contact = touching answer f; by-a-margin = f; holder = holder answer refl (known w a b words) }
   promised (suc n) e = record { no-contact = λ _ _ _ _ _ _ _ _. tt; by-a-margin = λ _ _ _ _ _ _ _ _. tt; holder = tt }
 

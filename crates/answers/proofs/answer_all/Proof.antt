@@ -6,7 +6,8 @@ use mathlib.Core.List.{List}
 use lib.ListN.{length}
 use Rattle.rules.specs.QueryFile.{fileForm, openRefusal, put}
 use Rattle.queries.specs.Opening.{Holds, records-end, opened-records, opened-refused}
-use Rattle.answers.proofs.Refusing.{all-refused, all-short, all-good, refuses, answers}
+use Rattle.answers.specs.Doing.{refuses, answers}
+use Rattle.answers.proofs.Refusing.{all-refused, all-short, all-good}
 use Rattle.answers.proofs.Walking.{tells-place, queue-place}
 use borrow.Author.Needs.{needs}
 use Rattle.answers.proofs.answer_all.Statement.{statement}

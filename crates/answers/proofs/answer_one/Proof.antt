@@ -5,7 +5,8 @@ use mathlib.Core.List.{List}
 use native.Mathlib.Omega.{arith}
 use Rattle.rules.specs.QueryFile.{fileForm, openRefusal, placeOf}
 use Rattle.queries.specs.Opening.{Holds, record-fits, opened-records, opened-refused}
-use Rattle.answers.proofs.Refusing.{one-refused, one-index, one-short, one-good, refuses, answers}
+use Rattle.answers.specs.Doing.{refuses, answers}
+use Rattle.answers.proofs.Refusing.{one-refused, one-index, one-short, one-good}
 use Rattle.answers.proofs.Walking.{at-place}
 use borrow.Author.Needs.{needs}
 use Rattle.answers.proofs.answer_one.Statement.{statement}

@@ -1,0 +1,63 @@
+-- Refused or answered: what comes back, what is told, and what is left of the queue. Assumes nothing.
+use Prim.Native.Nat.{ℕ, zero, suc, _≤_, _<_}
+use mathlib.Core.Path.{_≡_, refl, sym, ap, _∙_}
+use mathlib.Core.Bool.{Bool}
+use mathlib.Core.List.{List, [], _∷_}
+use borrow.Author.Tests.{lt-ltb, le-ltb}
+use lib.ListN.{length, replicate}
+use Rattle.rules.specs.declared.Terms.{Terms}
+use Rattle.rules.specs.declared.BodyAnswer.{BodyAnswer}
+use Rattle.rules.specs.declared.BodyAnswer.the-variants.{Clear, Least, Refused}
+use Rattle.rules.specs.Refusals.{first, orElse}
+use Rattle.rules.specs.Bodies.{Body, queriesOf, bodyRefusal, hearAll, bodyUnless, bodySearch, queueAfterBodies}
+use Rattle.triangles.specs.InOrder.{IsAnswer, hearAll-answers}
+use Rattle.answers.specs.Walk.{short}
+use Rattle.bodies.specs.Walk.{Heard}
+use Rattle.bodies.specs.Telling.{Answered, tellRefusal}
+use Rattle.bodies.proofs.Refusing.{or-else}
+
+after-answer : (x : BodyAnswer) (queue : List ℕ) → IsAnswer x → queueAfterBodies x queue ≡ replicate (length queue) 0
+unfolding queueAfterBodies
+after-answer (Clear sum) queue h = refl
+after-answer (Least t i j query word excess sum) queue h = refl
+after-answer (Refused number) queue h = absurd h
+
+module _ (w : Terms) (a b : Body) (queue : List ℕ) where
+  -- a refusal touches nothing
+  pub refused : (n : ℕ) → n ≡ bodyRefusal w a b (length queue) → (n ≡ 0 → ⊥) → Answered w a b queue queue (Refused n)
+  unfolding queueAfterBodies bodySearch bodyUnless
+  refused zero e h = absurd (h refl)
+  refused (suc n) e h =
+      let s : Refused (suc n) ≡ bodySearch w a b (length queue) = ap (λ (m : ℕ). bodyUnless m (hearAll (length queue) (Clear 0) (queriesOf w a b))) e in
+      record { says = s; left = ap (λ (x : BodyAnswer). queueAfterBodies x queue) s }
+
+  -- every query heard from a queue of zeros
+  pub answered : (cleared queue′ : List ℕ) (r : BodyAnswer) → bodyRefusal w a b (length queue) ≡ 0 → cleared ≡ replicate (length queue) 0 → length cleared ≡ length queue
+      → Heard 983040 (queriesOf w a b) cleared queue′ (Clear 0) r → Answered w a b queue queue′ r
+  unfolding bodySearch bodyUnless
+  answered cleared queue′ r e z l h =
+      let s : bodySearch w a b (length queue) ≡ hearAll (length queue) (Clear 0) (queriesOf w a b) = ap (λ (m : ℕ). bodyUnless m (hearAll (length queue) (Clear 0) (queriesOf w a b))) e in
+      record {
+        says = h .says ∙ ap (λ (n : ℕ). hearAll n (Clear 0) (queriesOf w a b)) l ∙ sym s;
+        left = h .kept ∙ z ∙ sym (ap (λ (x : BodyAnswer). queueAfterBodies x queue) s ∙ after-answer _ queue (hearAll-answers (length queue) (Clear 0) (queriesOf w a b) tt));
+      }
+
+  -- ---- the number that is told
+
+  module _ (out : List ℕ) where
+    pub tell-refused : (n : ℕ) → n ≡ bodyRefusal w a b (length queue) → (n ≡ 0 → ⊥) → n ≡ tellRefusal w a b (length queue) out
+    unfolding tellRefusal
+    tell-refused n e h = sym (ap (λ (m : ℕ). orElse m (first (short out 8 ∷ []))) (sym e) ∙ or-else n _ h)
+
+    module _ (e : 0 ≡ bodyRefusal w a b (length queue)) where
+      accepts : tellRefusal w a b (length queue) out ≡ first (short out 8 ∷ [])
+      unfolding tellRefusal
+      accepts = ap (λ (m : ℕ). orElse m (first (short out 8 ∷ []))) (sym e)
+
+      pub tell-short : length out < 8 → 14 ≡ tellRefusal w a b (length queue) out
+      unfolding first
+      tell-short l = sym (accepts ∙ rw (lt-ltb (length out) 8 l))
+
+      pub tell-good : 8 ≤ length out → 0 ≡ tellRefusal w a b (length queue) out
+      unfolding first
+      tell-good l = sym (accepts ∙ rw (le-ltb (length out) 8 l))

@@ -1,0 +1,38 @@
+-- What is answered of two bodies, and what is told of it: eight numbers.
+use Prim.Native.Nat.{ℕ, _/_, _%_}
+use mathlib.Core.Path.{_≡_}
+use mathlib.Core.List.{List, [], _∷_}
+use lib.ListN.{length}
+use Rattle.rules.specs.declared.Terms.{Terms}
+use Rattle.rules.specs.declared.BodyAnswer.{BodyAnswer}
+use Rattle.rules.specs.declared.BodyAnswer.the-variants.{Clear, Least, Refused}
+use Rattle.rules.specs.Refusals.{first, orElse}
+use Rattle.rules.specs.Bodies.{Body, bodyRefusal, bodySearch, queueAfterBodies}
+use Rattle.answers.specs.Walk.{short, Does}
+
+-- the answer of the written search, and what it leaves of the queue
+pub record Answered (w : Terms) (a b : Body) (queue queue′ : List ℕ) (r : BodyAnswer) : Type 0 where
+  pub says : r ≡ bodySearch w a b (length queue)
+  pub left : queue′ ≡ queueAfterBodies (bodySearch w a b (length queue)) queue
+
+-- the sum of counts in two numbers of 32 bits
+abbrev pub low : ℕ → ℕ
+low sum = sum % 4294967296
+
+abbrev pub high : ℕ → ℕ
+high sum = sum / 4294967296
+
+-- word, t, triangle of A, triangle of B, query, excess, then the sum; what CLEAR does not carry is 0
+unfoldable pub bodyTold : BodyAnswer → List ℕ
+bodyTold (Clear sum) = 2 ∷ 0 ∷ 0 ∷ 0 ∷ 0 ∷ 0 ∷ low sum ∷ high sum ∷ []
+bodyTold (Least t a b query word excess sum) = word ∷ t ∷ a ∷ b ∷ query ∷ excess ∷ low sum ∷ high sum ∷ []
+bodyTold (Refused number) = []
+
+-- 21 and the queries' own, then 14
+unfoldable pub tellRefusal : Terms → Body → Body → ℕ → List ℕ → ℕ
+tellRefusal w a b words out = orElse (bodyRefusal w a b words) (first (short out 8 ∷ []))
+
+abbrev pub Tells : Terms → Body → Body → List ℕ → List ℕ → List ℕ → List ℕ → ℕ → Type 0
+Tells w a b queue queue′ out out′ number =
+    let r : BodyAnswer = bodySearch w a b (length queue) in
+    Does (tellRefusal w a b (length queue) out) (bodyTold r) (queueAfterBodies r queue) queue queue′ out out′ number
