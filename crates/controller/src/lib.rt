@@ -1,7 +1,10 @@
 // The library for a controller: numbers and slices only. include/taperhive.h says what each function does.
 ghost use mathlib.Core.Path.{_≡_};
 ghost use Rattle.answers.specs.Walk.{One, Every, Counted};
+ghost use Rattle.bodies.specs.Asking.{body};
+ghost use Rattle.bodies.specs.Telling.{Tells};
 ghost use Rattle.controller.specs.Copying.{numberOf, Copied, Ended};
+use rules::Terms;
 use rules::Wrote;
 
 // Record n of a query file.
@@ -69,4 +72,33 @@ pub extern "C" fn taperhive_trailer(out: &mut [u8], at: usize, edition: u8, coun
     ensures { λ r. ⌜ Ended (now (out .entry)) at edition count (now (out .exit)) r ⌝ }
 {
     number(queries::write_trailer(out, at, edition, count))
+}
+
+// Two bodies of triangles, their positions at the start and at the end of the step.
+#[no_mangle]
+pub extern "C" fn taperhive_bodies(
+    dx: u32,
+    dy: u32,
+    dz: u32,
+    tolerance: u32,
+    budget: u32,
+    m: usize,
+    a0: &[i32],
+    a1: &[i32],
+    n: usize,
+    b0: &[i32],
+    b1: &[i32],
+    queue: &mut [u64],
+    told: &mut [u32],
+) -> u32
+    ensures { λ r. ⌜ Tells (record { dx = dx; dy = dy; dz = dz; tolerance = tolerance; budget = budget }) (body m (now (a0 .entry)) (now (a1 .entry))) (body n (now (b0 .entry)) (now (b1 .entry))) (now (queue .entry)) (now (queue .exit)) (now (told .entry)) (now (told .exit)) r ⌝ }
+{
+    let w = Terms {
+        dx,
+        dy,
+        dz,
+        tolerance,
+        budget,
+    };
+    bodies::answer_bodies(w, m, a0, a1, n, b0, b1, queue, told)
 }
