@@ -1,7 +1,7 @@
 // Everything that the search asks about one box of a pair.
 ghost use mathlib.Core.Path.{_≡_};
 ghost use Rattle.rules.specs.Refusals.{searchRefusal};
-ghost use Rattle.rules.specs.Search.{survives, inside, corner, near, split};
+ghost use Rattle.rules.specs.Search.{origin, survives, inside, corner, near, split};
 ghost use Rattle.kernel.specs.Kernel.{asked};
 ghost use Rattle.kernel.specs.Ranges.{Ranged, Shallow, InGrid};
 ghost use Rattle.gap.specs.Prepared.{Prepared};
@@ -44,6 +44,15 @@ pub fn survives(p: Pair, k: Three, i: Three) -> bool
     } else {
         false
     }
+}
+
+// Whether the whole cube survives: level 0 has no other box.
+pub fn survives_whole(p: Pair) -> bool
+    requires { ⌜ Ranged p ⌝ }
+    ensures { λ r. ⌜ r ≡ survives (asked p) origin origin ⌝ }
+{
+    let whole = Three { t: 0, u: 0, v: 0 };
+    survives(p, whole, whole)
 }
 
 // Whether a half is kept: for vertex-face its low u plus low v is at most 1.

@@ -276,7 +276,11 @@ pub fn search_accepted(r: Record, queue: &mut [u64]) -> Answer
     ensures { λ a. ⌜ Answers a ⌝ }
 {
     let p = gap::prepare(r, queue.len());
-    search_zeroed(p, queue)
+    if gap::survives_whole(p) {
+        return search_zeroed(p, queue);
+    }
+    // most pairs are apart over the whole cube: no word is touched
+    Answer::Clear(1)
 }
 
 // The search of a record in a queue that may be `clean`: one who asks again and again clears it once.
