@@ -12,7 +12,7 @@ use Rattle.rules.specs.Gap.{X, Y, Z, Place, OnBodies, Contact, moving, vertexFa
 use Rattle.rules.specs.Refusals.{first, every, searchRefusal}
 use Rattle.rules.specs.Search.{search, run, levels, afterLevel, ifRoom, halves, merge, takeIn, notAfter, those, inside, split, winner, spread, check, oneBox, near, firstSurvivor, corner, excess, width, survives, least, greatest, overCorners, unless}
 use Rattle.rules.specs.Bodies.{Body, askOf, askedFrom, eachFrom, queriesOf, firstRefused, bodyRefusal, counted, isLess, sumOf, heard, hearAll, bodyUnless, bodySearch}
-use Rattle.rules.specs.BodyExamples.{level, moves, terms, quay, falls}
+use Rattle.rules.specs.BodyExamples.{level, moves, touching, quay, falls}
 use Rattle.promise.specs.Bodies.{C1, Way, vertex-face, way, NotBefore, BodiesPromised}
 
 abbrev at : ℕ → ℕ → ℕ → ℕ → Place
@@ -20,13 +20,13 @@ at q a b c = record { q = q; a = a; b = b; c = c }
 
 -- corner 1 of A's triangle i with face B
 abbrev asks : Body → ℕ → Record
-asks a i = askOf (terms 999) a quay i 0 (way (vertex-face C1))
+asks a i = askOf (touching 999) a quay i 0 (way (vertex-face C1))
 
 here : (r : Record) (m : Place) → 0 < m .q → m .a ≤ m .q → m .b + m .c ≤ m .q → OnBodies r m
 here r m q t f = record { positive = q; t = t; u = omega arith; v = omega arith; face = λ _. f }
 
 -- ---- enough: the fall meets the quay at t = 1/2, so it is not CLEAR whatever is asked
-pub not-always-clear : (words n : ℕ) → BodiesPromised (terms 999) falls quay words (Clear n) → ⊥
+pub not-always-clear : (words n : ℕ) → BodiesPromised (touching 999) falls quay words (Clear n) → ⊥
 unfolding askOf gapOn vertexFace edgeEdge moving negateFrom sided
 not-always-clear words n p = p .no-contact 0 0 (omega arith) (omega arith) (vertex-face C1) (at 2 1 0 0) (here _ _ (omega arith) (omega arith) (omega arith)) contact
   where
@@ -41,7 +41,7 @@ not-always-clear words n p = p .no-contact 0 0 (omega arith) (omega arith) (vert
 abbrev above : Body
 above = moves 1 (level (pos 1000)) (level (pos 1))
 
-rows : (Least 0 0 0 1 1 0 15 ≡ bodySearch (terms 999) quay quay 4096) × (Clear 15 ≡ bodySearch (terms 999) above quay 4096)
+rows : (Least 0 0 0 1 1 0 15 ≡ bodySearch (touching 999) quay quay 4096) × (Clear 15 ≡ bodySearch (touching 999) above quay 4096)
 unfolding bodySearch bodyUnless bodyRefusal queriesOf eachFrom askedFrom askOf firstRefused hearAll heard counted isLess sumOf search run levels afterLevel ifRoom halves merge takeIn notAfter those inside split winner spread check oneBox near firstSurvivor corner excess width survives least greatest overCorners unless first every searchRefusal moving vertexFace edgeEdge gapOn negateFrom sided
 rows = (refl, refl)
 
@@ -60,7 +60,7 @@ Later (Refused number) m = Unit {0}
 pub not-strictly-earlier : OfEvery _<_ Later → ⊥
 unfolding askOf gapOn vertexFace edgeEdge moving negateFrom sided
 not-strictly-earlier f =
-    omega (arith, f (terms 999) quay quay 4096 (Least 0 0 0 1 1 0 15) (rows .0) 0 0 (omega arith) (omega arith) (vertex-face C1) (at 2 0 0 0) (here _ _ (omega arith) (omega arith) (omega arith)) contact)
+    omega (arith, f (touching 999) quay quay 4096 (Least 0 0 0 1 1 0 15) (rows .0) 0 0 (omega arith) (omega arith) (vertex-face C1) (at 2 0 0 0) (here _ _ (omega arith) (omega arith) (omega arith)) contact)
   where
     contact : Contact (asks quay 0) (at 2 0 0 0)
     contact X = omega arith
@@ -71,7 +71,7 @@ not-strictly-earlier f =
 pub not-past-the-last : OfEvery _≤_ NotBefore → ⊥
 unfolding askOf gapOn vertexFace edgeEdge moving negateFrom sided
 not-past-the-last f =
-    f (terms 999) above quay 4096 (Clear 15) (rows .1) 1 0 (omega arith) (omega arith) (vertex-face C1) (at 4 0 1 1) (here _ _ (omega arith) (omega arith) (omega arith)) contact
+    f (touching 999) above quay 4096 (Clear 15) (rows .1) 1 0 (omega arith) (omega arith) (vertex-face C1) (at 4 0 1 1) (here _ _ (omega arith) (omega arith) (omega arith)) contact
   where
     contact : Contact (asks above 1) (at 4 0 1 1)
     contact X = omega arith

@@ -16,22 +16,29 @@ use Rattle.rules.specs.Bodies.{Body, askOf, askedFrom, eachFrom, queries
 abbrev pub level : ℤ → List ℤ
 level z = point (minus 100) (minus 100) z ++ point (pos 300) (minus 100) z ++ point (minus 100) (pos 300) z
 
+-- T moved by 500, 520, 30: on each axis it is then 100, 120, 30 from the square that T is half of
+abbrev pub aside : List ℤ
+aside = point (pos 400) (pos 420) (pos 30) ++ point (pos 800) (pos 420) (pos 30) ++ point (pos 400) (pos 820) (pos 30)
+
 -- a body of n triangles
 abbrev pub moves : ℕ → List ℤ → List ℤ → Body
 moves n start end = record { count = n; start = start; end = end }
 
--- all separations 0 and a budget of 1,000
-abbrev pub terms : ℕ → Terms
-terms tolerance = record { dx = 0; dy = 0; dz = 0; tolerance = tolerance; budget = 1000 }
+-- separations, tolerance, and a budget of 1,000
+abbrev pub terms : ℕ → ℕ → ℕ → ℕ → Terms
+terms dx dy dz tolerance = record { dx = dx; dy = dy; dz = dz; tolerance = tolerance; budget = 1000 }
+
+abbrev pub touching : ℕ → Terms
+touching = terms 0 0 0
 
 pub record BodyRow : Type 0 where
-  pub tolerance : ℕ
+  pub terms : Terms
   pub a : Body
   pub b : Body
   pub answer : BodyAnswer
 
-abbrev pub row : ℕ → Body → Body → BodyAnswer → BodyRow
-row tolerance a b answer = record { tolerance = tolerance; a = a; b = b; answer = answer }
+abbrev pub row : Terms → Body → Body → BodyAnswer → BodyRow
+row w a b answer = record { terms = w; a = a; b = b; answer = answer }
 
 abbrev pub quay : Body
 quay = moves 1 (level (pos 0)) (level (pos 0))
@@ -43,20 +50,46 @@ steps = moves 2 (level (minus 5000) ++ level (pos 0)) (level (minus 5000) ++ lev
 abbrev pub falls : Body
 falls = moves 1 (level (pos 1000)) (level (minus 1000))
 
--- columns of `row`: tolerance, A, B, then the answer
+-- two that stand still, the second of them in the way of what rises
+abbrev pub stands : Body
+stands = moves 2 (level (pos 5000) ++ level (pos 1000)) (level (pos 5000) ++ level (pos 1000))
+
+abbrev pub rises : Body
+rises = moves 1 (level (pos 0)) (level (pos 2000))
+
+-- a wide triangle, and one that stands upright on it on its first corner
+abbrev pub wide : List ℤ
+wide = point (pos 0) (pos 0) (pos 0) ++ point (pos 1000) (pos 0) (pos 0) ++ point (pos 0) (pos 1000) (pos 0)
+
+abbrev pub spike : List ℤ
+spike = point (pos 200) (pos 200) (pos 0) ++ point (pos 200) (pos 200) (pos 500) ++ point (pos 210) (pos 200) (pos 500)
+
+abbrev pub besides : Body
+besides = moves 1 aside aside
+
+-- columns of `row`: terms, A, B, then the answer
 abbrev pub body-rows : List BodyRow
 body-rows =
     -- it stays above: each of the fifteen is clear at its first box
-    row 999 (moves 1 (level (pos 1000)) (level (pos 1))) quay (Clear 15)
+    row (touching 999) (moves 1 (level (pos 1000)) (level (pos 1))) quay (Clear 15)
     -- it falls through: each of the fifteen goes as the berth's first case
-    ∷ row 999 falls quay (Least 262144 0 0 1 1 500 75)
+    ∷ row (touching 999) falls quay (Least 262144 0 0 1 1 500 75)
     -- the pair that is far apart counts too, and the first that has the time is the second pair's first query
-    ∷ row 2000 falls steps (Least 0 0 1 1 1 1000 30)
+    ∷ row (touching 2000) falls steps (Least 0 0 1 1 1 1000 30)
+    -- the same of A's triangles, and of a B that moves
+    ∷ row (touching 999) stands rises (Least 262144 1 0 1 1 500 90)
+    -- each separation on its own axis: one unit less on any of them is clear
+    ∷ row (terms 100 120 30 2000) besides quay (Least 0 0 0 1 1 400 15)
+    ∷ row (terms 99 120 30 2000) besides quay (Clear 15)
+    ∷ row (terms 100 119 30 2000) besides quay (Clear 15)
+    ∷ row (terms 100 120 29 2000) besides quay (Clear 15)
+    -- a corner of B stands on A, and A's corners are away from it: the first of B's corners is asked fourth
+    ∷ row (touching 2000) (moves 1 wide wide) (moves 1 spike spike) (Least 0 0 0 4 1 200 15)
     -- 21 before the queries' own
-    ∷ row 15 falls (moves 2 (level (pos 0)) (level (pos 0))) (Refused 21)
-    ∷ row 15 falls quay (Refused 5)
+    ∷ row (touching 15) falls (moves 2 (level (pos 0)) (level (pos 0))) (Refused 21)
+    ∷ row (touching 15) falls quay (Refused 5)
     ∷ []
 
-pub body-examples : map (λ (r : BodyRow). bodySearch (terms (r .tolerance)) (r .a) (r .b) 4096) body-rows ≡ map (λ (r : BodyRow). r .answer) body-rows
+pub body-examples : map (λ (r : BodyRow). bodySearch (r .terms) (r .a) (r .b) 4096) body-rows ≡ map (λ (r : BodyRow). r .answer) body-rows
 unfolding bodySearch bodyUnless bodyRefusal queriesOf eachFrom askedFrom askOf firstRefused hearAll heard counted isLess sumOf search run levels afterLevel ifRoom halves merge takeIn notAfter those inside split winner spread check oneBox near firstSurvivor corner excess width survives least greatest overCorners unless first every searchRefusal moving vertexFace edgeEdge gapOn negateFrom sided
 body-examples = refl
