@@ -1,4 +1,4 @@
-/* Taperhive for a controller: the queries of a file, searched and told in numbers.
+/* Taperhive for a controller: the queries of a file, or of two bodies of triangles, searched and told in numbers.
  *
  * Build: rt staticlib controller, then link target/staticlib/libcontroller.a (x86-64 Linux).
  * Every function may be called with any bytes, any numbers and any lengths; nothing is left for the caller to check first. A pointer must
@@ -15,7 +15,7 @@
  *
  * A file is of edition 1 (records of 116 bytes, one separation for all axes) or 2 (128 bytes, one for each); no call asks which.
  *
- * What is returned: 0, or why nothing was done: 8 SHORT, 9 MARK, 10 EDITION, 11 COUNT, 12 BACK of the file, 13 INDEX of the record number,
+ * What the functions on a file return: 0, or why nothing was done: 8 SHORT, 9 MARK, 10 EDITION, 11 COUNT, 12 BACK of the file, 13 INDEX of the record number,
  * 14 SPACE where fewer numbers are lent than are to be told; the lowest. Then nothing that was lent is changed.
  */
 #ifndef TAPERHIVE_H
@@ -30,6 +30,8 @@ extern "C" {
 
 enum { TAPERHIVE_REFUSED, TAPERHIVE_MET, TAPERHIVE_CLEAR, TAPERHIVE_SPENT, TAPERHIVE_ROOM, TAPERHIVE_FLOOR };
 enum { TAPERHIVE_ID, TAPERHIVE_WORD, TAPERHIVE_T, TAPERHIVE_U, TAPERHIVE_V, TAPERHIVE_EXCESS, TAPERHIVE_COUNT, TAPERHIVE_NUMBER, TAPERHIVE_TOLD };
+/* Where taperhive_bodies tells what; the sum's high half stands behind its low half. */
+enum { TAPERHIVE_BODIES_WORD, TAPERHIVE_BODIES_T, TAPERHIVE_BODIES_A, TAPERHIVE_BODIES_B, TAPERHIVE_BODIES_QUERY, TAPERHIVE_BODIES_EXCESS, TAPERHIVE_BODIES_COUNT };
 
 /* Record n of the file. told's first eight numbers are written. The lent queue is as it was where the record is refused, and all zero where it is
  * answered; 2 to 1,048,576 words are taken, and what they hold does not matter. */
@@ -41,6 +43,19 @@ uint32_t taperhive_answers(const uint8_t *file, size_t file_len, uint64_t *queue
 
 /* How many records the file has, into told[0]. */
 uint32_t taperhive_count(const uint8_t *file, size_t file_len, uint32_t *told, size_t told_len);
+
+/* Two bodies of triangles, a gangway and a hull, in one call: fifteen queries for each triangle of A with each of B (corners 1, 2, 3 of A with face B, those of B with
+ * face A, then edges 12, 23, 31 of A each with 12, 23, 31 of B), pairs by A's triangle, then B's. Positions are nine numbers a triangle: x, y, z of its corners 1, 2, 3, once at the start and once at the
+ * end of the step. Separations, tolerance and budget are those of every query; there is no flag.
+ * told's first eight numbers are written: word, t, triangle of A, triangle of B, query, excess, and the sum of all counts in two numbers, the low 32 bits first.
+ *   word CLEAR where all are clear; else the word of the least time's holder: the first query in order that has that time
+ *   t, excess    its own; triangles count from 0, queries from 1; all of them 0 for CLEAR
+ * The lent queue is all zero then. Returns 0, or why nothing was done and nothing lent was changed: 21 BODY where a body has not 1 to 256 triangles, or some slice not nine numbers a
+ * triangle; then the number 3 to 7 of the first refused query in order; then 14 where told has fewer than eight numbers. */
+uint32_t taperhive_bodies(uint32_t dx, uint32_t dy, uint32_t dz, uint32_t tolerance, uint32_t budget,
+                          size_t a_count, const int32_t *a_start, size_t a_start_len, const int32_t *a_end, size_t a_end_len,
+                          size_t b_count, const int32_t *b_start, size_t b_start_len, const int32_t *b_end, size_t b_end_len,
+                          uint64_t *queue, size_t queue_len, uint32_t *told, size_t told_len);
 
 /* Record n of a file, written into another buffer from place `at` on, in edition 1 or 2. Returns 0, or why nothing was done and no byte was changed: 8 to 13 of the file and the
  * number, 1 to 6 of the record (4 also for edition 1 where the three separations differ), 10 for an edition other than 1 and 2, 14 where fewer bytes than the record's 116 or 128
