@@ -2,6 +2,7 @@
 
 pub mod bench;
 pub mod beside;
+pub mod bodies;
 pub mod edition;
 pub mod file;
 pub mod gap;

@@ -20,6 +20,7 @@ pub enum Refusal {
     Index = 13,
     Space = 14,
     Long = 15,
+    Body = 21,
 }
 
 impl Refusal {
