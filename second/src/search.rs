@@ -104,7 +104,7 @@ impl<'a> Search<'a> {
     }
 
     fn run(mut self, half: usize) -> (Answer, Trace) {
-        let differences = self.motion.differences();
+        let mut differences = None;
         let mut trace = Trace::new();
         let mut level = Level { depths: [0; 3], boxes: vec![[0; 3]] };
         loop {
@@ -116,7 +116,9 @@ impl<'a> Search<'a> {
             if survivors.is_empty() {
                 return (Answer::Clear { count: self.count }, trace);
             }
-            level = self.split(level.depths, &survivors, &differences);
+            // Worked out at the first split, as most queries never come to one.
+            let differences = differences.get_or_insert_with(|| self.motion.differences());
+            level = self.split(level.depths, &survivors, differences);
             trace.peak = trace.peak.max(level.boxes.len());
             if level.boxes.len() > half {
                 return (Answer::Room(self.corner()), trace);
