@@ -1,6 +1,7 @@
 //! Query files at random, by flavour; each depends on the seed and the flavour only.
 
 mod bad;
+pub mod bodies;
 mod degenerate;
 mod dice;
 pub mod queries;
