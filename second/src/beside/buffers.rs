@@ -27,6 +27,15 @@ impl Word for u32 {
     }
 }
 
+impl Word for i32 {
+    const NAME: &'static str = "number";
+    /// A triangle's worth.
+    const GUARD: usize = 9;
+    fn cut(number: u64) -> i32 {
+        number as i32
+    }
+}
+
 impl Word for u8 {
     const NAME: &'static str = "byte";
     /// Enough to hold a record that is written just before the lent part or just behind it.
@@ -71,6 +80,17 @@ impl<T: Word> Lent<T> {
     pub fn new(seed: u64, length: usize) -> Lent<T> {
         let all = (0..length + 2 * T::GUARD).map(|place| found(seed, place)).collect();
         Lent { all, seed, length }
+    }
+
+    /// One that holds these words at first.
+    pub fn holding(seed: u64, words: &[T]) -> Lent<T> {
+        let mut lent = Lent::new(seed, words.len());
+        lent.slice().copy_from_slice(words);
+        lent
+    }
+
+    pub fn read(&self) -> &[T] {
+        &self.all[T::GUARD..T::GUARD + self.length]
     }
 
     pub fn slice(&mut self) -> &mut [T] {

@@ -1,9 +1,11 @@
 //! The library under test, called with dirty buffers of every length.
 
-use super::buffers::{After, Lent, Shifted};
+use super::buffers::{Lent, Shifted};
 use super::expected::{answered, Expected, TOLD};
+use super::judged::{differences, Must};
 use super::tally::Tally;
 use super::{Case, LONG};
+use crate::bodies::Bodies;
 use crate::edition::Edition;
 use crate::rng::Rng;
 
@@ -19,6 +21,29 @@ pub type Copied = unsafe extern "C" fn(*const u8, usize, usize, u8, *mut u8, usi
 /// Buffer, place, edition, count.
 pub type Trailer = unsafe extern "C" fn(*mut u8, usize, usize, u8, u32) -> u32;
 
+/// Separations, tolerance, budget; A's count, start, end; B's; queue; told.
+pub type TwoBodies = unsafe extern "C" fn(
+    u32,
+    u32,
+    u32,
+    u32,
+    u32,
+    usize,
+    *const i32,
+    usize,
+    *const i32,
+    usize,
+    usize,
+    *const i32,
+    usize,
+    *const i32,
+    usize,
+    *mut u64,
+    usize,
+    *mut u32,
+    usize,
+) -> u32;
+
 /// The C functions under test.
 #[derive(Clone, Copy)]
 pub struct Library {
@@ -27,6 +52,7 @@ pub struct Library {
     pub count: Count,
     pub copy: Copied,
     pub trailer: Trailer,
+    pub bodies: TwoBodies,
 }
 
 impl Library {
@@ -62,6 +88,34 @@ impl Library {
     pub fn trailer(&self, out: &mut [u8], at: usize, edition: u8, count: u32) -> u32 {
         // Sound: as above.
         unsafe { (self.trailer)(out.as_mut_ptr(), out.len(), at, edition, count) }
+    }
+
+    pub fn bodies(&self, bodies: &Bodies, queue: &mut [u64], told: &mut [u32]) -> u32 {
+        let Bodies { a, b, separations: [x, y, z], tolerance, budget } = *bodies;
+        // Sound: as above; the counts may be any numbers.
+        unsafe {
+            (self.bodies)(
+                x,
+                y,
+                z,
+                tolerance,
+                budget,
+                a.count,
+                a.start.as_ptr(),
+                a.start.len(),
+                a.end.as_ptr(),
+                a.end.len(),
+                b.count,
+                b.start.as_ptr(),
+                b.start.len(),
+                b.end.as_ptr(),
+                b.end.len(),
+                queue.as_mut_ptr(),
+                queue.len(),
+                told.as_mut_ptr(),
+                told.len(),
+            )
+        }
     }
 }
 
@@ -171,17 +225,7 @@ impl<'a> Caller<'a> {
         told: &Lent<u32>,
     ) {
         self.tally.call(must.as_ref().err().copied());
-        let number = must.as_ref().err().copied().unwrap_or(0);
-        if code != number {
-            self.differences.push(format!("{call}: returned {code} and must return {number}"));
-        }
-        let told_after = must.as_ref().map_or(After::AsFound, |words| After::Begins(words));
-        if let Some(difference) = told.difference(&told_after) {
-            self.differences.push(format!("{call}: told's {difference}"));
-        }
-        let queue_after = if answered { After::Zero } else { After::AsFound };
-        if let Some(difference) = queue.difference(&queue_after) {
-            self.differences.push(format!("{call}: the queue's {difference}"));
-        }
+        let must = Must { told: must, answered };
+        self.differences.extend(differences(call, code, &must, queue, told));
     }
 }

@@ -31,6 +31,27 @@ extern "C" {
         at: usize,
     ) -> u32;
     fn taperhive_trailer(out: *mut u8, out_len: usize, at: usize, edition: u8, count: u32) -> u32;
+    fn taperhive_bodies(
+        dx: u32,
+        dy: u32,
+        dz: u32,
+        tolerance: u32,
+        budget: u32,
+        a_count: usize,
+        a_start: *const i32,
+        a_start_len: usize,
+        a_end: *const i32,
+        a_end_len: usize,
+        b_count: usize,
+        b_start: *const i32,
+        b_start_len: usize,
+        b_end: *const i32,
+        b_end_len: usize,
+        queue: *mut u64,
+        queue_len: usize,
+        told: *mut u32,
+        told_len: usize,
+    ) -> u32;
 }
 
 pub fn library() -> Library {
@@ -40,5 +61,6 @@ pub fn library() -> Library {
         count: taperhive_count,
         copy: taperhive_copy,
         trailer: taperhive_trailer,
+        bodies: taperhive_bodies,
     }
 }

@@ -1,12 +1,15 @@
 //! The comparison with the proved code. The second program uses nothing of it.
 
+pub mod bodies;
 mod buffers;
 mod expected;
+mod judged;
 mod library;
 #[cfg(feature = "beside")]
 pub mod linked;
 mod places;
 pub mod process;
+mod progress;
 pub mod report;
 pub mod tally;
 pub mod walk;
@@ -20,6 +23,7 @@ use crate::file::open;
 use crate::gen::{flavours, generate, words::words};
 use crate::rng::Rng;
 use library::Caller;
+use report::Again;
 use tally::Tally;
 
 /// A queue longer than this is tried on few files: filling and looking at it takes long.
@@ -60,6 +64,24 @@ impl Case {
         while self.file.len() > CROWD && self.words.len() > FEW {
             self.words.remove(rng.below(self.words.len()));
         }
+    }
+}
+
+impl Again for Case {
+    fn seed(&self) -> u64 {
+        self.seed
+    }
+
+    fn flavour(&self) -> &'static str {
+        self.flavour
+    }
+
+    fn words(&self) -> &[usize] {
+        &self.words
+    }
+
+    fn contents(&self) -> (&'static str, Vec<u8>) {
+        ("queries", self.file.clone())
     }
 }
 

@@ -1,27 +1,35 @@
 //! Differences kept so that they can be looked at and run again.
 
-use super::Case;
 use std::fs;
 use std::path::Path;
 
-/// Lines kept of one file's differences.
+/// Lines kept of one case's differences.
 const KEPT: usize = 20;
 
+/// A case that a seed and a flavour make again.
+pub trait Again {
+    fn seed(&self) -> u64;
+    fn flavour(&self) -> &'static str;
+    /// The queue lengths tried on it.
+    fn words(&self) -> &[usize];
+    /// What is kept of it, and the ending of that file's name.
+    fn contents(&self) -> (&'static str, Vec<u8>);
+}
+
 /// Prints the differences of a case, and keeps them beside the file that shows them.
-pub fn keep(folder: &Path, case: &Case, differences: &[String]) -> std::io::Result<()> {
-    let name = format!("compare-{}-{}", case.seed, case.flavour);
+pub fn keep(folder: &Path, case: &impl Again, differences: &[String]) -> std::io::Result<()> {
+    let (seed, flavour, words) = (case.seed(), case.flavour(), case.words());
+    let name = format!("compare-{seed}-{flavour}");
     let lines = &differences[..differences.len().min(KEPT)];
-    let again = format!("again: tools/compare --only {} {}", case.seed, case.flavour);
+    let again = format!("again: tools/compare --only {seed} {flavour}");
     let text = format!(
-        "seed {}, flavour {}, words {:?}\n{}\n{} differences\n{again}\n",
-        case.seed,
-        case.flavour,
-        case.words,
+        "seed {seed}, flavour {flavour}, words {words:?}\n{}\n{} differences\n{again}\n",
         lines.join("\n"),
         differences.len()
     );
     print!("DIFFERS: {text}");
     fs::create_dir_all(folder)?;
-    fs::write(folder.join(format!("{name}.queries")), &case.file)?;
+    let (ending, contents) = case.contents();
+    fs::write(folder.join(format!("{name}.{ending}")), contents)?;
     fs::write(folder.join(format!("{name}.txt")), text)
 }

@@ -1,6 +1,7 @@
 //! What a comparison has gone through.
 
 use super::expected::TOLD;
+use super::progress::Counts;
 use crate::edition::Edition;
 use std::fmt;
 
@@ -8,8 +9,8 @@ const WORDS: [&str; 6] = ["REFUSED", "MET", "CLEAR", "SPENT", "ROOM", "FLOOR"];
 
 #[derive(Clone, Debug, Default)]
 pub struct Tally {
-    pub files: u64,
-    pub differing: u64,
+    files: u64,
+    differing: u64,
     calls: u64,
     /// Records compared, of edition 1 and of edition 2.
     queries: [u64; 2],
@@ -26,12 +27,6 @@ pub struct Tally {
 }
 
 impl Tally {
-    /// A file compared, and whether anything differed.
-    pub fn file(&mut self, differs: bool) {
-        self.files += 1;
-        self.differing += u64::from(differs);
-    }
-
     /// A call, and the number that refuses it.
     pub fn call(&mut self, refusal: Option<u32>) {
         self.calls += 1;
@@ -81,6 +76,17 @@ impl Tally {
             }
         }
         self.call(refusal);
+    }
+}
+
+impl Counts for Tally {
+    fn case(&mut self, differs: bool) {
+        self.files += 1;
+        self.differing += u64::from(differs);
+    }
+
+    fn cases(&self) -> (u64, u64) {
+        (self.files - self.differing, self.differing)
     }
 }
 

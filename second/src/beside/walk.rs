@@ -1,28 +1,32 @@
 //! Every flavour of one seed after the other, for as long as there is time.
 
+use super::progress::{verdict, Counts, Progress};
+use super::report::{self, Again};
 use super::tally::Tally;
-use super::{compare, process, report, Case, Library};
-use crate::gen::flavours;
+use super::{bodies, compare, process, Case, Library};
+use crate::gen;
 use std::fs;
 use std::path::PathBuf;
 use std::time::{Duration, Instant};
 
 /// How often a long comparison says how far it is.
 const SAYS: Duration = Duration::from_secs(600);
-/// Of the time, one part in so many goes to `sweep` as a program.
-const PROGRAM_SHARE: u32 = 3;
+/// Of the time, one part in so many goes to `sweep` as a program, to bodies, and to the largest bodies; the rest to files in process.
+const PROGRAM_SHARE: u32 = 4;
+const BODIES_SHARE: u32 = 4;
+const LARGE_SHARE: u32 = 12;
+/// The largest bodies take seconds, and are begun only where so much time is left.
+const LARGE_NEEDS: Duration = Duration::from_secs(10);
 
-/// Beginnings of flavours of large files, in either edition: one in so many seeds.
-const SELDOM: [(&str, u64); 3] = [("many", 8), ("most", 4), ("edge6553", 4)];
-/// Holds the seed and the flavour of the file under way.
+/// Holds the seed and the flavour of the case under way.
 const UNDER_WAY: &str = "under-way";
 
-/// Where one way of comparing stands in seeds × flavours.
-struct Place {
-    first: u64,
-    next: usize,
-    tally: Tally,
-    taken: Duration,
+/// Where each way of comparing stands.
+struct Ways {
+    calls: Progress<Tally>,
+    programs: Progress<Tally>,
+    bodies: Progress<bodies::tally::Tally>,
+    large: Progress<bodies::tally::Tally>,
 }
 
 pub struct Walk<'a> {
@@ -33,105 +37,124 @@ pub struct Walk<'a> {
     pub folder: PathBuf,
 }
 
-impl Place {
-    fn new(first: u64) -> Place {
-        Place { first, next: 0, tally: Tally::default(), taken: Duration::ZERO }
-    }
-
-    fn seed(&self) -> u64 {
-        self.first + (self.next / flavours().len()) as u64
-    }
-
-    fn advance(&mut self) -> Case {
-        loop {
-            let (seed, flavour) = (self.seed(), flavours()[self.next % flavours().len()]);
-            self.next += 1;
-            let seldom = SELDOM.iter().find(|(name, _)| flavour.starts_with(name));
-            if seldom.is_none_or(|(_, every)| (seed - self.first).is_multiple_of(*every)) {
-                return Case::new(seed, flavour).expect("a flavour of the list");
-            }
+impl Ways {
+    fn new(first: u64) -> Ways {
+        let small = gen::bodies::flavours().into_iter().filter(|name| *name != gen::bodies::LARGE);
+        Ways {
+            calls: Progress::new("in process", first, gen::flavours()),
+            programs: Progress::new("sweep as a program", first, gen::flavours()),
+            bodies: Progress::new("bodies", first, small.collect()),
+            large: Progress::new("bodies of 256 triangles", first, vec![gen::bodies::LARGE]),
         }
     }
 
-    fn say(&self, name: &str) {
-        let Place { first, tally, .. } = self;
-        println!("{name}: from seed {first} up to {}; {tally}", self.seed());
+    fn say(&self) {
+        self.calls.say();
+        self.programs.say();
+        self.bodies.say();
+        self.large.say();
+    }
+
+    /// Short runs have no time for the largest bodies; these alone may have no case.
+    fn verdict(&self) -> bool {
+        let files = [&self.calls, &self.programs].map(|way| way.tally.cases());
+        let mut ways = vec![files[0], files[1], self.bodies.tally.cases()];
+        ways.extend(Some(self.large.tally.cases()).filter(|cases| *cases != (0, 0)));
+        verdict(&ways)
     }
 }
 
 impl Walk<'_> {
     /// Goes on from a seed until the time is over; true where nothing differed.
     pub fn run(&self, first: u64, time: Duration) -> bool {
-        let (mut calls, mut programs) = (Place::new(first), Place::new(first));
+        let mut ways = Ways::new(first);
         let begun = Instant::now();
         let mut said = begun;
         while begun.elapsed() < time {
-            if programs.taken * PROGRAM_SHARE <= begun.elapsed() {
-                self.step(&mut programs, |walk, case, tally| {
-                    process::compare(walk.program, case, tally)
-                });
-            } else {
-                self.step(&mut calls, |walk, case, tally| compare(&walk.library, case, tally));
-            }
+            self.next(&mut ways, begun.elapsed(), time);
             if said.elapsed() > SAYS {
                 said = Instant::now();
-                say(&calls, &programs);
+                ways.say();
             }
         }
         let _ = fs::remove_file(self.folder.join(UNDER_WAY));
-        say(&calls, &programs);
-        verdict(&[&calls.tally, &programs.tally])
+        ways.say();
+        ways.verdict()
+    }
+
+    /// One case of the way whose turn it is.
+    fn next(&self, ways: &mut Ways, elapsed: Duration, time: Duration) {
+        let has_time = elapsed + LARGE_NEEDS <= time;
+        if has_time && ways.large.is_due(LARGE_SHARE, elapsed) {
+            self.step(&mut ways.large, bodies::Case::new, Walk::bodies);
+        } else if ways.bodies.is_due(BODIES_SHARE, elapsed) {
+            self.step(&mut ways.bodies, bodies::Case::new, Walk::bodies);
+        } else if ways.programs.is_due(PROGRAM_SHARE, elapsed) {
+            self.step(&mut ways.programs, Case::new, Walk::program);
+        } else {
+            self.step(&mut ways.calls, Case::new, Walk::calls);
+        }
     }
 
     /// One file both ways.
     pub fn only(&self, case: &Case) -> bool {
         let (mut calls, mut program) = (Tally::default(), Tally::default());
-        let found = compare(&self.library, case, &mut calls);
-        self.judge(case, found, &mut calls);
-        let found = process::compare(self.program, case, &mut program);
-        self.judge(case, found, &mut program);
+        self.judge(case, self.calls(case, &mut calls), &mut calls);
+        self.judge(case, self.program(case, &mut program), &mut program);
         println!("in process: {calls}\nas a program: {program}");
-        verdict(&[&calls, &program])
+        verdict(&[calls.cases(), program.cases()])
     }
 
-    fn step(&self, place: &mut Place, by: fn(&Walk, &Case, &mut Tally) -> Vec<String>) {
+    /// One pair of bodies.
+    pub fn only_bodies(&self, case: &bodies::Case) -> bool {
+        let mut tally = bodies::tally::Tally::default();
+        self.judge(case, self.bodies(case, &mut tally), &mut tally);
+        println!("bodies: {tally}");
+        verdict(&[tally.cases()])
+    }
+
+    fn calls(&self, case: &Case, tally: &mut Tally) -> Vec<String> {
+        compare(&self.library, case, tally)
+    }
+
+    fn program(&self, case: &Case, tally: &mut Tally) -> Vec<String> {
+        process::compare(self.program, case, tally)
+    }
+
+    fn bodies(&self, case: &bodies::Case, tally: &mut bodies::tally::Tally) -> Vec<String> {
+        bodies::compare(&self.library, case, tally)
+    }
+
+    fn step<T: Counts, C: Again>(
+        &self,
+        way: &mut Progress<T>,
+        make: fn(u64, &str) -> Option<C>,
+        by: fn(&Self, &C, &mut T) -> Vec<String>,
+    ) {
         let begun = Instant::now();
-        let case = place.advance();
-        self.under_way(&case);
-        let differences = by(self, &case, &mut place.tally);
-        self.judge(&case, differences, &mut place.tally);
-        place.taken += begun.elapsed();
+        let (seed, flavour) = way.advance();
+        self.under_way(seed, flavour);
+        let case = make(seed, flavour).expect("a flavour of the list");
+        let differences = by(self, &case, &mut way.tally);
+        self.judge(&case, differences, &mut way.tally);
+        way.taken += begun.elapsed();
     }
 
-    /// Notes the file under way, which is then known even if the library does not return.
-    fn under_way(&self, case: &Case) {
-        let text = format!("seed {}, flavour {}\n", case.seed, case.flavour);
+    /// Notes the case under way, which is then known even if the library does not return.
+    fn under_way(&self, seed: u64, flavour: &str) {
+        let text = format!("seed {seed}, flavour {flavour}\n");
         let made = fs::create_dir_all(&self.folder);
         if let Err(fault) = made.and_then(|()| fs::write(self.folder.join(UNDER_WAY), text)) {
             println!("not noted: {fault}");
         }
     }
 
-    fn judge(&self, case: &Case, differences: Vec<String>, tally: &mut Tally) {
-        tally.file(!differences.is_empty());
+    fn judge(&self, case: &impl Again, differences: Vec<String>, tally: &mut impl Counts) {
+        tally.case(!differences.is_empty());
         if !differences.is_empty() {
             if let Err(fault) = report::keep(&self.folder, case, &differences) {
                 println!("not kept: {fault}");
             }
         }
     }
-}
-
-fn say(calls: &Place, programs: &Place) {
-    calls.say("in process");
-    programs.say("sweep as a program");
-}
-
-/// A way of comparing that no file went through has failed.
-fn verdict(tallies: &[&Tally]) -> bool {
-    let passed: u64 = tallies.iter().map(|tally| tally.files - tally.differing).sum();
-    let failed = |tally: &&Tally| if tally.files == 0 { 1 } else { tally.differing };
-    let failed: u64 = tallies.iter().map(failed).sum();
-    println!("{passed} passed, {failed} failed");
-    failed == 0
 }

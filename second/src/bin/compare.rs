@@ -1,13 +1,13 @@
 //! Compares the proved library and `sweep` with the second program.
 
-use second::beside::{linked, walk::Walk, Case};
+use second::beside::{bodies, linked, walk::Walk, Case};
 use std::path::PathBuf;
 use std::process::ExitCode;
 use std::time::Duration;
 
 const USAGE: &str = "\
 usage: compare SECONDS SEED PROGRAM..           from a seed on, for so long
-       compare --only SEED FLAVOUR PROGRAM..    one file; PROGRAM.. is sweep as it is called";
+       compare --only SEED FLAVOUR PROGRAM..    one file or pair of bodies; PROGRAM.. is sweep as it is called";
 
 fn main() -> ExitCode {
     let arguments: Vec<String> = std::env::args().skip(1).collect();
@@ -29,7 +29,9 @@ fn run(arguments: &[String]) -> Option<bool> {
     let folder = PathBuf::from("target/differences");
     let walk = Walk { library: linked::library(), program, folder };
     if only {
-        return Some(walk.only(&Case::new(numbers[1].parse().ok()?, &numbers[2])?));
+        let (seed, flavour) = (numbers[1].parse().ok()?, &numbers[2]);
+        let of_bodies = || Some(walk.only_bodies(&bodies::Case::new(seed, flavour)?));
+        return Case::new(seed, flavour).map(|case| walk.only(&case)).or_else(of_bodies);
     }
     let time = Duration::from_secs(numbers[0].parse().ok()?);
     Some(walk.run(numbers[1].parse().ok()?, time))

@@ -1,6 +1,7 @@
 //! A library with the proved one's functions, made from the second program, right or with one fault.
 #![allow(dead_code)]
 
+pub mod bodies;
 pub mod writing;
 
 use second::beside::Library;
@@ -54,13 +55,29 @@ pub const FAULTS: [Fault; 17] = [
 
 /// The library with fault number N of the list.
 pub fn library<const N: usize>() -> Library {
-    let (copy, trailer) = (writing::copy::<0>, writing::trailer::<0>);
-    Library { answer: answer::<N>, answers: answers::<N>, count: count::<N>, copy, trailer }
+    Library {
+        answer: answer::<N>,
+        answers: answers::<N>,
+        count: count::<N>,
+        copy: writing::copy::<0>,
+        trailer: writing::trailer::<0>,
+        bodies: bodies::bodies::<0, false>,
+    }
 }
 
 /// The library with fault number N of the writers' list.
 pub fn writing_library<const N: usize>() -> Library {
     Library { copy: writing::copy::<N>, trailer: writing::trailer::<N>, ..library::<0>() }
+}
+
+/// The library with fault number N of the bodies' list.
+pub fn bodies_library<const N: usize>() -> Library {
+    Library { bodies: bodies::bodies::<N, false>, ..library::<0>() }
+}
+
+/// The same where every query is clear by a million boxes.
+pub fn crowded_library<const N: usize>() -> Library {
+    Library { bodies: bodies::bodies::<N, true>, ..library::<0>() }
 }
 
 /// The eight numbers of record n, with the fault.

@@ -1,0 +1,274 @@
+//! Two bodies by the stub, right or with one fault.
+
+use second::bodies::{refusal, told, walk, Asked, Bodies, BodiesAnswer, Body, Least, NUMBERS};
+use second::record::Record;
+use second::refusals::{check_record, check_words, Refusal};
+use second::search::{search, Answer};
+use std::slice::{from_raw_parts, from_raw_parts_mut};
+
+macro_rules! faults {
+    ($($name:ident)*) => {
+        #[derive(Clone, Copy, Debug, PartialEq, Eq)]
+        pub enum Fault { $($name),* }
+        pub const FAULTS: &[Fault] = &[$(Fault::$name),*];
+    };
+}
+
+faults! {
+    None
+    EdgesExchanged EdgesOfBFirst CornersOfBFirst PairsByB LaterOfEqualNamed LastOfAForgotten LastOfBForgotten
+    EndsAtTheFirstTime EndsAtTimeZero SumOfTheHolder SumCutTo32Bits ExcessOfTheLast WordOfTheLast
+    TrianglesFromOne QueriesFromZero TimeToldOfClear
+    QueueLeftDirty QueueClearedThoughRefused WordBeyondQueue WordBeyondTold
+    BodyAfterQueries LengthsUnchecked LengthsWrap LongerTaken CountCutTo32Bits Most255 Least257 EmptyTaken
+    EndOfBUnchecked StartOfAUnchecked CommonBeforeCoordinates CoordinatesBeforeCommon QueueBeforeBudget
+    SeparationOfX SpaceBeforeRefusal SpaceOfSeven ToldWrittenOnRefusal ToldWrittenThoughShort
+}
+
+/// Fault N over the second program's search, or over one that finds every query clear by a million boxes: a few thousand queries
+/// then have a sum of more than 32 bits.
+#[rustfmt::skip]
+pub unsafe extern "C" fn bodies<const N: usize, const CROWDED: bool>(
+    dx: u32, dy: u32, dz: u32, tolerance: u32, budget: u32,
+    a_count: usize, a_start: *const i32, a_start_len: usize, a_end: *const i32, a_end_len: usize,
+    b_count: usize, b_start: *const i32, b_start_len: usize, b_end: *const i32, b_end_len: usize,
+    queue: *mut u64, queue_len: usize, told: *mut u32, told_len: usize,
+) -> u32 {
+    let list = |start: *const i32, length: usize| from_raw_parts(start, length);
+    let a = Body { count: a_count, start: list(a_start, a_start_len), end: list(a_end, a_end_len) };
+    let b = Body { count: b_count, start: list(b_start, b_start_len), end: list(b_end, b_end_len) };
+    let bodies = Bodies { a, b, separations: [dx, dy, dz], tolerance, budget };
+    let (queue, told) = (from_raw_parts_mut(queue, queue_len), from_raw_parts_mut(told, told_len));
+    let ask = |record: &Record| if CROWDED { CROWD } else { search(record, queue_len) };
+    called(FAULTS[N], &bodies, queue, told, ask)
+}
+
+/// What a query of a crowded walk is answered.
+pub const CROWD: Answer = Answer::Clear { count: 1_000_000 };
+
+fn called(
+    fault: Fault,
+    bodies: &Bodies,
+    queue: &mut [u64],
+    lent: &mut [u32],
+    ask: impl Fn(&Record) -> Answer,
+) -> u32 {
+    let room = if fault == Fault::SpaceOfSeven { 7 } else { 8 };
+    if fault == Fault::SpaceBeforeRefusal && lent.len() < room {
+        return 14;
+    }
+    let bodies = taken(fault, bodies);
+    if let Some(refusal) = refused(fault, &bodies, queue.len()) {
+        if fault == Fault::QueueClearedThoughRefused {
+            queue.fill(0);
+        }
+        if fault == Fault::ToldWrittenOnRefusal && lent.len() >= 8 {
+            lent[0] = 0;
+        }
+        return refusal.number();
+    }
+    if lent.len() < room {
+        if fault == Fault::ToldWrittenThoughShort && !lent.is_empty() {
+            lent[0] = 2;
+        }
+        return 14;
+    }
+    let numbers = answered(fault, &sound(fault, &bodies), ask);
+    let room = lent.len().min(8);
+    lent[..room].copy_from_slice(&numbers[..room]);
+    leave(fault, queue, lent);
+    0
+}
+
+/// The queue and what stands behind it and behind told, as an answer leaves them.
+fn leave(fault: Fault, queue: &mut [u64], told: &mut [u32]) {
+    // Both lie inside the words that stand around every lent buffer.
+    match fault {
+        Fault::WordBeyondQueue => unsafe { *queue.as_mut_ptr().add(queue.len()) = 0 },
+        Fault::WordBeyondTold => unsafe { *told.as_mut_ptr().add(8) = 0 },
+        _ => {}
+    }
+    let left = usize::from(fault == Fault::QueueLeftDirty && queue.len() % 2 == 1);
+    let clean = queue.len() - left;
+    queue[..clean].fill(0);
+}
+
+/// The bodies as the faulty library takes them.
+fn taken<'a>(fault: Fault, bodies: &Bodies<'a>) -> Bodies<'a> {
+    let mut taken = *bodies;
+    for body in [&mut taken.a, &mut taken.b] {
+        match fault {
+            Fault::CountCutTo32Bits => body.count = body.count as u32 as usize,
+            Fault::LongerTaken => {
+                let length = NUMBERS.saturating_mul(body.count);
+                body.start = &body.start[..length.min(body.start.len())];
+                body.end = &body.end[..length.min(body.end.len())];
+            }
+            _ => {}
+        }
+    }
+    taken
+}
+
+/// Bodies that can be walked, where a fault let others pass.
+fn sound<'a>(fault: Fault, bodies: &Bodies<'a>) -> Bodies<'a> {
+    let mut sound = *bodies;
+    for body in [&mut sound.a, &mut sound.b] {
+        let whole = body.start.len().min(body.end.len()) / NUMBERS;
+        body.count = body.count.min(whole);
+    }
+    match fault {
+        Fault::LastOfAForgotten if sound.a.count > 1 => sound.a.count -= 1,
+        Fault::LastOfBForgotten if sound.b.count > 1 => sound.b.count -= 1,
+        Fault::SeparationOfX => sound.separations = [sound.separations[0]; 3],
+        _ => {}
+    }
+    sound
+}
+
+/// True where the fault finds that the body is none.
+fn is_no_body(fault: Fault, body: &Body) -> bool {
+    let Body { count, start, end } = body;
+    let lists = [start.len(), end.len()];
+    let fits = match fault {
+        Fault::LengthsUnchecked => lists.iter().all(|length| *length >= NUMBERS),
+        Fault::LengthsWrap => return lists != [NUMBERS.wrapping_mul(*count); 2] || *count == 0,
+        _ => lists == [NUMBERS.saturating_mul(*count); 2],
+    };
+    let range = match fault {
+        Fault::Most255 => 1..=255,
+        Fault::Least257 => 1..=257,
+        Fault::EmptyTaken => 0..=256,
+        _ => 1..=256,
+    };
+    !fits || !range.contains(count)
+}
+
+fn refused(fault: Fault, bodies: &Bodies, words: usize) -> Option<Refusal> {
+    let no_body = is_no_body(fault, &bodies.a) || is_no_body(fault, &bodies.b);
+    let of_queries = first_refused(fault, &sound(Fault::None, bodies), words);
+    let of_body = no_body.then_some(Refusal::Body);
+    match fault {
+        Fault::BodyAfterQueries => of_queries.or(of_body),
+        _ => of_body.or(of_queries),
+    }
+}
+
+/// The first refused query's number, by a check with the fault.
+fn first_refused(fault: Fault, bodies: &Bodies, words: usize) -> Option<Refusal> {
+    let mut bodies = *bodies;
+    let common = |bodies: &Bodies| {
+        let nothing = [0; NUMBERS];
+        let point = Body { count: 1, start: &nothing, end: &nothing };
+        refusal(&Bodies { a: point, b: point, ..*bodies }, words)
+    };
+    let coordinates = |bodies: &Bodies| {
+        let right = Bodies { separations: [0; 3], tolerance: 16, budget: 1, ..*bodies };
+        right.queries().find_map(|asked| check_record(&asked.record).err())
+    };
+    match fault {
+        Fault::EndOfBUnchecked => bodies.b.end = bodies.b.start,
+        Fault::StartOfAUnchecked => bodies.a.start = bodies.a.end,
+        Fault::CommonBeforeCoordinates => return common(&bodies).or_else(|| coordinates(&bodies)),
+        Fault::CoordinatesBeforeCommon => return coordinates(&bodies).or_else(|| common(&bodies)),
+        Fault::QueueBeforeBudget if check_words(words).is_err() => {
+            let first = refusal(&Bodies { budget: 1, ..bodies }, words);
+            return first;
+        }
+        _ => {}
+    }
+    let check = |record: &Record| check_record(record).and_then(|()| check_words(words)).err();
+    bodies.queries().find_map(|asked| check(&asked.record))
+}
+
+/// The eight numbers of a walk with the fault.
+fn answered(fault: Fault, bodies: &Bodies, ask: impl Fn(&Record) -> Answer) -> [u32; 8] {
+    let mut queries: Vec<Asked> = bodies.queries().collect();
+    reorder(fault, &mut queries);
+    let mut answers: Vec<Answer> = queries.iter().map(|asked| ask(&asked.record)).collect();
+    if fault == Fault::LaterOfEqualNamed {
+        queries.reverse();
+        answers.reverse();
+    }
+    let time = |answer: &Answer| time_and_excess(answer).map(|(t, _)| t);
+    let ends = match fault {
+        Fault::EndsAtTheFirstTime => answers.iter().position(|answer| time(answer).is_some()),
+        Fault::EndsAtTimeZero => answers.iter().position(|answer| time(answer) == Some(0)),
+        _ => None,
+    };
+    let most = ends.map_or(answers.len(), |place| place + 1);
+    let mut given = answers.iter();
+    let walked = walk(queries.into_iter().take(most), |_| *given.next().expect("an answer each"));
+    let mut numbers = told(&walked).expect("an answer");
+    spoil(fault, &mut numbers, &walked, &answers);
+    numbers
+}
+
+fn time_and_excess(answer: &Answer) -> Option<(u32, u32)> {
+    let numbers = second::told::told(answer);
+    (numbers[0] != 2).then_some((numbers[1], numbers[4]))
+}
+
+/// Another order of the queries, with the numbers that this order gives them.
+fn reorder(fault: Fault, queries: &mut [Asked]) {
+    match fault {
+        Fault::PairsByB => queries.sort_by_key(|asked| (asked.b, asked.a, asked.query)),
+        Fault::EdgesOfBFirst => {
+            for asked in queries.iter_mut().filter(|asked| asked.query > 6) {
+                for points in [&mut asked.record.start, &mut asked.record.end] {
+                    points.rotate_left(2);
+                }
+            }
+        }
+        _ => {}
+    }
+    for pair in queries.chunks_exact_mut(15) {
+        match fault {
+            Fault::CornersOfBFirst => exchange(pair, [0, 1, 2], [3, 4, 5]),
+            Fault::EdgesExchanged => exchange(pair, [6, 7, 8], [12, 13, 14]),
+            _ => {}
+        }
+    }
+}
+
+/// Exchanges what is asked at two places, three times.
+fn exchange(pair: &mut [Asked], ones: [usize; 3], others: [usize; 3]) {
+    for (one, other) in ones.into_iter().zip(others) {
+        let record = pair[one].record;
+        pair[one].record = pair[other].record;
+        pair[other].record = record;
+    }
+}
+
+/// Numbers that are told otherwise.
+fn spoil(fault: Fault, numbers: &mut [u32; 8], walked: &BodiesAnswer, answers: &[Answer]) {
+    let last = answers.iter().rev().find(|answer| time_and_excess(answer).is_some());
+    let least = match walked {
+        BodiesAnswer::Least(least) => least,
+        _ => {
+            if fault == Fault::TimeToldOfClear {
+                numbers[1] = 1 << 20;
+            }
+            if fault == Fault::SumCutTo32Bits {
+                numbers[7] = 0;
+            }
+            return;
+        }
+    };
+    let last = second::told::told(last.expect("the one that has the time"));
+    match fault {
+        Fault::ExcessOfTheLast => numbers[5] = last[4],
+        Fault::WordOfTheLast => numbers[0] = last[0],
+        Fault::TrianglesFromOne => (numbers[2], numbers[3]) = (least.a + 1, least.b + 1),
+        Fault::QueriesFromZero => numbers[4] -= 1,
+        Fault::SumOfTheHolder => numbers[6..].copy_from_slice(&holder(least, answers)),
+        Fault::SumCutTo32Bits => numbers[7] = 0,
+        _ => {}
+    }
+}
+
+/// The count of the one that has the least time.
+fn holder(least: &Least, answers: &[Answer]) -> [u32; 2] {
+    let has = |answer: &&Answer| time_and_excess(answer).is_some_and(|(t, _)| t == least.t);
+    [answers.iter().find(has).expect("the one that has the time").count(), 0]
+}
