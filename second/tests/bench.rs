@@ -1,10 +1,12 @@
 //! What the bench measures does what it is measured for.
 
 use second::bench::berth::Berth;
+use second::bench::bodies::{corpus::Class, walk};
 use second::bench::float::{queries, Found};
 use second::bench::measure::{by_turns, median, Contestant};
 use second::bench::plain::answers;
-use second::beside::Expected;
+use second::beside::{bodies, Expected};
+use second::bodies::{answer, told, Bodies};
 use second::edition::Edition::One;
 use second::file::{file_of, open};
 use second::gen::{flavours, generate};
@@ -79,6 +81,48 @@ fn floats_find_what_the_exact_search_finds() {
     }
     // A float filter and a strict test of the width may turn a few.
     assert!(decided > 4000 && alike * 1000 >= decided * 999, "{alike} of {decided}");
+}
+
+/// Code, told and queue of the walk written by hand.
+fn walked<const UNSCALED: bool>(bodies: &Bodies, words: usize) -> (u32, [u32; 8], Vec<u64>) {
+    let (mut told, mut queue) = ([7; 8], vec![7; words]);
+    let code = walk::bodies::<UNSCALED>(bodies, &mut queue, &mut told);
+    (code, told, queue)
+}
+
+#[test]
+fn walks_by_hand_answer_as_the_second_program() {
+    let small = second::gen::bodies::flavours().into_iter();
+    let small: Vec<&str> = small.filter(|name| *name != second::gen::bodies::LARGE).collect();
+    for (seed, flavour) in (1..30).flat_map(|seed| small.iter().map(move |name| (seed, name))) {
+        let case = bodies::Case::new(seed, flavour).unwrap();
+        for words in case.words {
+            let bodies = case.drawn.bodies();
+            let must = match told(&answer(&bodies, words)) {
+                Err(refusal) => (refusal.number(), [7; 8], vec![7; words]),
+                Ok(told) => (0, told, vec![0; words]),
+            };
+            assert!(walked::<false>(&bodies, words) == must, "{flavour} {seed} {words}");
+            assert!(walked::<true>(&bodies, words) == must, "{flavour} {seed} {words}");
+            let (mut queue, mut short) = (vec![7; words], [7; 7]);
+            let code = walk::bodies::<true>(&bodies, &mut queue, &mut short);
+            assert_eq!(code, if must.0 == 0 { 14 } else { must.0 });
+            assert!(short == [7; 7] && queue == vec![7; words]);
+        }
+    }
+}
+
+#[test]
+fn bodies_of_the_bench_are_far_apart_near_and_touching() {
+    let queries = 256 * 256 * 15;
+    let [far, near, touching] = Class::all(1).map(|class| {
+        let (code, told, _) = walked::<true>(&class.bodies(), 4096);
+        assert_eq!((code, told[7]), (0, 0), "{}", class.name);
+        (told[0], told[6])
+    });
+    assert_eq!(far, (2, queries));
+    assert!(near.0 == 2 && near.1 > queries + queries / 10, "{near:?}");
+    assert!(touching.0 != 2 && touching.1 > queries + queries / 4, "{touching:?}");
 }
 
 #[test]

@@ -1,6 +1,7 @@
 //! What the bench measures beside the proved search. The second program uses nothing of it.
 
 pub mod berth;
+pub mod bodies;
 pub mod corpus;
 pub mod float;
 pub mod measure;

@@ -26,16 +26,25 @@ pub type Ends = [[i64; 2]; 3];
 impl Motion {
     #[inline(always)]
     pub fn of(query: &Query) -> Motion {
-        let vertex_face = query.vertex_face();
+        let mirrored = query.mirrored();
+        let first_body = if query.vertex_face() { 1 } else { 2 };
+        Motion::new(query.vertex_face(), |point, end, axis| {
+            let sign = if mirrored && axis == 1 && point >= first_body { -1 } else { 1 };
+            sign * i64::from(query.coordinates[12 * end + 3 * point + axis])
+        })
+    }
+
+    /// Of the coordinate of a point at an end on an axis.
+    #[inline(always)]
+    pub fn new(vertex_face: bool, at: impl Fn(usize, usize, usize) -> i64) -> Motion {
         let mut axes = [Axis { a: [0; 2], b: [0; 2], c: [0; 2] }; 3];
         for (n, axis) in axes.iter_mut().enumerate() {
             for end in 0..2 {
-                let sign = if query.mirrored() && n == 1 { -1 } else { 1 };
-                let p = |point: usize| i64::from(query.coordinates[12 * end + 3 * point + n]);
+                let p = |point: usize| at(point, end, n);
                 (axis.a[end], axis.b[end], axis.c[end]) = if vertex_face {
-                    (p(0) - sign * p(1), sign * (p(1) - p(2)), sign * (p(1) - p(3)))
+                    (p(0) - p(1), p(1) - p(2), p(1) - p(3))
                 } else {
-                    (p(0) - sign * p(2), p(1) - p(0), sign * (p(2) - p(3)))
+                    (p(0) - p(2), p(1) - p(0), p(2) - p(3))
                 };
             }
         }

@@ -53,7 +53,7 @@ fn all<const LEAVE: bool, const SIZE: usize>(
     }
 }
 
-struct Search {
+pub struct Search {
     motion: Motion,
     separations: [i64; 3],
     tolerance: i64,
@@ -70,11 +70,16 @@ type Checked = Result<usize, u32>;
 impl Search {
     #[inline(always)]
     fn of(query: &Query) -> Search {
+        Search::new(Motion::of(query), query.separations, query.tolerance, query.budget)
+    }
+
+    #[inline(always)]
+    pub fn new(motion: Motion, separations: [u32; 3], tolerance: u32, budget: u32) -> Search {
         Search {
-            motion: Motion::of(query),
-            separations: query.separations.map(|d| i64::from(d) * UNIT),
-            tolerance: i64::from(query.tolerance) * UNIT,
-            budget: query.budget,
+            motion,
+            separations: separations.map(|d| i64::from(d) * UNIT),
+            tolerance: i64::from(tolerance) * UNIT,
+            budget,
             count: 0,
             depths: [0; 3],
             recorded: [0; 4],
@@ -82,7 +87,7 @@ impl Search {
     }
 
     /// Word, t, u, v, excess, count. The queue is zero before and after.
-    fn run<const LEAVE: bool>(&mut self, queue: &mut [u64]) -> [u32; 6] {
+    pub fn run<const LEAVE: bool>(&mut self, queue: &mut [u64]) -> [u32; 6] {
         let (first, second) = queue.split_at_mut(queue.len() / 2);
         let half = first.len();
         let (mut present, mut next) = (first, &mut second[..half]);

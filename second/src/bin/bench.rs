@@ -1,5 +1,6 @@
-//! Measures the proved search beside an exact one written by hand and 004's method in floats, in one run.
+//! Measures the proved search beside an exact one written by hand and 004's method in floats, and the walk through two bodies, in one run.
 
+use second::bench::bodies::contest;
 use second::bench::corpus::{Class, Corpus, QUEUE_WORDS, SEED};
 use second::bench::float::{queries, Query};
 use second::bench::measure::{by_turns, Contestant, Measured};
@@ -25,7 +26,11 @@ fn main() -> ExitCode {
         show(class, &library);
     }
     clearing();
-    ExitCode::SUCCESS
+    if contest::run(&library, SEED, QUEUE_WORDS) {
+        ExitCode::SUCCESS
+    } else {
+        ExitCode::FAILURE
+    }
 }
 
 /// The proved search and both written by hand give the same numbers.

@@ -1,0 +1,87 @@
+//! A gangway and a ship's side of 256 triangles each, far apart, near each other, and touching.
+
+use crate::bodies::{Bodies, Body, MOST_TRIANGLES};
+use crate::rng::Rng;
+
+/// Units of a centimetre.
+const CENTIMETRE: i32 = 80;
+/// Side of a cell, and how far up the ship's side goes in it: steep, so that boxes of near cells overlap and only smaller ones part.
+const CELL: i32 = 60 * CENTIMETRE;
+const RISE: i32 = 40 * CENTIMETRE;
+/// Cells of a row; two triangles a cell.
+const ROW: i32 = 16;
+/// Plates are uneven by so much.
+const UNEVEN: i32 = CENTIMETRE;
+
+pub const TOLERANCE: u32 = 200;
+pub const BUDGET: u32 = 1_000;
+/// 5 cm on each axis.
+pub const SEPARATIONS: [u32; 3] = [400, 400, 400];
+
+/// Two bodies of one sort.
+pub struct Class {
+    pub name: &'static str,
+    /// A at the start and at the end, then B.
+    positions: [[Vec<i32>; 2]; 2],
+}
+
+/// Of the gangway over the ship's side, in centimetres: at the start and at the end, and how much more a row.
+struct Heights {
+    ends: [i32; 2],
+    a_row: i32,
+}
+
+impl Class {
+    pub fn all(seed: u64) -> [Class; 3] {
+        let mut rng = Rng::new(seed, "bodies of the bench");
+        let far = Heights { ends: [800, 700], a_row: 0 };
+        let near = Heights { ends: [30, 16], a_row: 0 };
+        let touching = Heights { ends: [40, -8], a_row: 12 };
+        [("far apart", far), ("near", near), ("touching", touching)]
+            .map(|(name, heights)| Class { name, positions: bodies(&mut rng, &heights) })
+    }
+
+    pub fn bodies(&self) -> Bodies<'_> {
+        let [a, b] = self.positions.each_ref().map(|[start, end]| Body {
+            count: MOST_TRIANGLES,
+            start,
+            end,
+        });
+        Bodies { a, b, separations: SEPARATIONS, tolerance: TOLERANCE, budget: BUDGET }
+    }
+}
+
+/// The gangway comes down by the heights; the ship heaves and surges a little.
+fn bodies(rng: &mut Rng, heights: &Heights) -> [[Vec<i32>; 2]; 2] {
+    let (heave, surge) = (rng.between(-400, 400), rng.between(-200, 200));
+    // Not in line with the ship's cells.
+    let shift = [CELL / 3, CELL / 5];
+    let above = |end: usize, row: i32| CENTIMETRE * (heights.ends[end] + heights.a_row * row);
+    let gangway = [0, 1].map(|end| {
+        plate(|column, row| {
+            let (x, y) = (shift[0] + CELL * column, shift[1] + CELL * row);
+            [x, y, above(end, row) + RISE * row + RISE / 5]
+        })
+    });
+    let hull = [0, 1].map(|end| {
+        let (along, up) = if end == 0 { (0, 0) } else { (surge, heave) };
+        plate(|column, row| [CELL * column + along, CELL * row, RISE * row + up])
+    });
+    // One unevenness a corner, the same at both ends.
+    [gangway, hull].map(|ends| {
+        let uneven: Vec<i32> = ends[0].iter().map(|_| rng.between(-UNEVEN, UNEVEN)).collect();
+        ends.map(|list| list.iter().zip(&uneven).map(|(place, off)| place + off).collect())
+    })
+}
+
+/// Two triangles for each cell, nine numbers each.
+fn plate(point: impl Fn(i32, i32) -> [i32; 3]) -> Vec<i32> {
+    let mut numbers = Vec::new();
+    for cell in 0..MOST_TRIANGLES as i32 / 2 {
+        let (column, row) = (cell % ROW, cell / ROW);
+        for (i, j) in [(0, 0), (1, 0), (0, 1), (1, 1), (0, 1), (1, 0)] {
+            numbers.extend(point(column + i, row + j));
+        }
+    }
+    numbers
+}
