@@ -7,7 +7,7 @@ use crate::beside::Library;
 use crate::bodies::{Bodies, MOST_TRIANGLES, QUERIES};
 use std::hint::black_box;
 
-const ROUNDS: usize = 15;
+const ROUNDS: usize = 31;
 const WORDS: [&str; 6] = ["REFUSED", "MET", "CLEAR", "SPENT", "ROOM", "FLOOR"];
 
 /// Two bodies, a queue and told, as the library takes them.

@@ -143,7 +143,7 @@ impl Walk<'_> {
     fn misses<const VERTEX_FACE: bool>(&self, points: &[&Corner; 4]) -> bool {
         (0..3).any(|axis| {
             let (mut least, mut greatest) = (i64::MAX, i64::MIN);
-            for end in 0..2 {
+            for end in [0, 1] {
                 let p = |n: usize| points[n][end][axis];
                 let corners = if VERTEX_FACE {
                     let fourth = p(2) + p(3) - p(1);

@@ -110,8 +110,8 @@ pub fn ties(rng: &mut Dice) -> Drawn {
 pub fn whole(rng: &mut Dice) -> Drawn {
     let step = rng.pick(&[1_000, 8_000, 20_000]);
     let tilt = rng.pick(&[step / 6, step / 10]);
-    let (low, falls) = (rng.pick(&[-step / 4, -step / 10, 0, step / 5]), step);
-    let noise = step / 10;
+    let low = rng.pick(&[-step / 4, -step / 10, step / 8, step / 6]);
+    let (falls, noise) = (step, step / 10);
     let mut gangway = Plate::level(16, step, [low + falls, low]);
     (gangway.tilts, gangway.noise) = ([[tilt; 2]; 2], noise);
     let hull = Plate { noise, ..Plate::level(16, step, [0; 2]) };
@@ -121,8 +121,9 @@ pub fn whole(rng: &mut Dice) -> Drawn {
         pair.iter_mut().for_each(|triangles| triangles.reverse());
     }
     let pair = turned(rng, pair);
-    let budget = rng.between(40, 120) as u32;
-    Drawn { tolerance: (step / 20) as u32, budget, ..Drawn::new(rng, step / 8, pair) }
+    let tolerance = rng.pick(&[step / 20, step / 4, step / 2]) as u32;
+    let budget = rng.between(40, 400) as u32;
+    Drawn { tolerance, budget, ..Drawn::new(rng, step / 8, pair) }
 }
 
 /// Two plates over each other, not quite in line, in any order.
