@@ -45,9 +45,9 @@ int main(void)
     hull(0, b_start);
     hull(METRE / 2, b_end);
 
-    /* 5 cm above the deck is contact enough, sideways 1 cm; a tolerance of 1 cm; 10,000 boxes a query */
+    /* 5 cm above the deck is contact enough, sideways 1 cm; a tolerance of 2 cm; 10,000 boxes a query */
     uint32_t told[TAPERHIVE_TOLD];
-    uint32_t refused = taperhive_bodies(80, 80, 400, 80, 10000, GANGWAY, a_start, GANGWAY * 9, a_end, GANGWAY * 9,
+    uint32_t refused = taperhive_bodies(80, 80, 400, 160, 10000, GANGWAY, a_start, GANGWAY * 9, a_end, GANGWAY * 9,
                                         HULL, b_start, HULL * 9, b_end, HULL * 9, queue, QUEUE_WORDS, told, TAPERHIVE_TOLD);
     if (refused) {
         printf("refused, number %u: not checked\n", refused);

@@ -1,5 +1,6 @@
 //! The query files of examples/ are what their texts say.
 
+use second::bodies::{answer, Bodies, BodiesAnswer, Body};
 use std::fs;
 use std::path::Path;
 
@@ -61,4 +62,68 @@ fn swell_is_answered_by_each_axis() {
 TOTAL 5 MET 3 CLEAR 2 SPENT 0 ROOM 0 FLOOR 0 REFUSED 0
 ";
     assert_eq!(second::text::sweep(&fs::read(path).expect("its query file"), 4096), expected);
+}
+
+const METRE: i32 = 8000;
+
+/// Two triangles of a rectangle: its corners in order round it.
+fn rectangle(corners: [[i32; 3]; 4]) -> Vec<i32> {
+    [0, 1, 2, 0, 2, 3].iter().flat_map(|&n| corners[n]).collect()
+}
+
+/// The box of examples/gangway.c, side by side, with its near lower corner there: 4 m by 1 m by 30 cm.
+fn gangway(near: [i32; 3]) -> Vec<i32> {
+    let far = [near[0] + 4 * METRE, near[1] + METRE, near[2] + 3 * METRE / 10];
+    let side = |axis: usize, at: i32| {
+        let (u, v) = ([1, 0, 0][axis], [2, 2, 1][axis]);
+        let corner = |far_u: bool, far_v: bool| {
+            let mut corner = near;
+            corner[axis] = at;
+            corner[u] = if far_u { far[u] } else { near[u] };
+            corner[v] = if far_v { far[v] } else { near[v] };
+            corner
+        };
+        rectangle([
+            corner(false, false),
+            corner(true, false),
+            corner(true, true),
+            corner(false, true),
+        ])
+    };
+    [2, 1, 0]
+        .iter()
+        .flat_map(|&axis| [side(axis, near[axis]), side(axis, far[axis])].concat())
+        .collect()
+}
+
+/// Its deck of 10 m by 8 m at a height, with a bulwark of 1 m along the far side.
+fn hull(height: i32) -> Vec<i32> {
+    let at = |x: i32, y: i32, z: i32| [x * METRE, y * METRE, z * METRE + height];
+    let deck = rectangle([at(-2, -4, 0), at(8, -4, 0), at(8, 4, 0), at(-2, 4, 0)]);
+    let bulwark = rectangle([at(8, -4, 0), at(8, 4, 0), at(8, 4, 1), at(8, -4, 1)]);
+    [deck, bulwark].concat()
+}
+
+#[test]
+fn the_gangway_of_the_c_example_is_answered_as_it_prints() {
+    let (a_start, a_end) = (
+        gangway([-METRE, -METRE / 2, 3 * METRE / 2]),
+        gangway([-METRE / 2, -METRE / 2, METRE / 4]),
+    );
+    let (b_start, b_end) = (hull(0), hull(METRE / 2));
+    let bodies = Bodies {
+        a: Body { count: 12, start: &a_start, end: &a_end },
+        b: Body { count: 4, start: &b_start, end: &b_end },
+        separations: [80, 80, 400],
+        tolerance: 160,
+        budget: 10000,
+    };
+    let BodiesAnswer::Least(l) = answer(&bodies, 4096) else { panic!("no time") };
+    let line = format!(
+        "{} at {}/1048576, triangle {} of the gangway with {} of the hull, query {}, excess {}, {} boxes\n",
+        ["REFUSED", "MET", "CLEAR", "SPENT", "ROOM", "FLOOR"][l.word as usize],
+        l.t, l.a, l.b, l.query, l.excess, l.count
+    );
+    let path = Path::new(env!("CARGO_MANIFEST_DIR")).join("../examples/gangway.stdout");
+    assert_eq!(line, fs::read_to_string(path).expect("what it prints"));
 }
