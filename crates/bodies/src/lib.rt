@@ -15,12 +15,12 @@ ghost use Rattle.bodies.specs.Walk.{positions, SumRoom, HeardIs, OfQuery
 use answers::numbers;
 use answers::write_four;
 use asking::query_at;
-use queue::clear;
 use refusals::is_coordinate;
 use refusals::search_refusal;
 use rules::BodyAnswer;
 use rules::Terms;
 use rules::Told;
+use search::clear_unless;
 use search::search_accepted;
 
 pub mod asking; // asking.rt: one query of a triangle pair
@@ -271,7 +271,7 @@ fn walk(
     requires { ⌜ bodyRefusal w (body m (now a0) (now a1)) (body n (now b0) (now b1)) (length (now queue)) ≡ 0 ⌝ }
     ensures { λ r. ⌜ Answered w (body m (now (a0 .entry)) (now (a1 .entry))) (body n (now (b0 .entry)) (now (b1 .entry))) (now (queue .entry)) (now (queue .exit)) r ⌝ }
 {
-    clear(queue);
+    clear_unless(queue, false);
     hear_bodies(w, m, a0, a1, n, b0, b1, queue)
 }
 

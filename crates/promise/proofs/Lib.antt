@@ -14,7 +14,4 @@ pub mod Accepted
 pub mod Demands
 pub mod Sharp
 pub mod Old
-pub mod Queries
-pub mod Heard
 pub mod Bodies
-pub mod SharpBodies

@@ -1,5 +1,5 @@
 -- What an answer about two bodies promises (document 02, R-6). Read `Body`, `askOf` and `bodySearch` in rules/specs/Bodies.antt and Promise.antt here,
--- then this page; no more is needed. proofs/Bodies.antt proves `Demand-bodies` and `Bodies-refused-exactly`.
+-- then this page; no more is needed. proofs/Bodies/Promised.antt proves `Demand-bodies` and `Bodies-refused-exactly`.
 use Prim.Native.Nat.{ℕ, _+_, _*_, _-_, _≤_, _<_}
 use mathlib.Core.Path.{_≡_}
 use mathlib.Core.Logic.{_↔_}

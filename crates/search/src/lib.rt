@@ -259,7 +259,7 @@ pub fn search_zeroed(p: Pair, queue: &mut [u64]) -> Answer
 }
 
 // Every word is zero afterwards; where the queue is `clean` they are already.
-fn clear_unless(queue: &mut [u64], clean: bool)
+pub fn clear_unless(queue: &mut [u64], clean: bool)
     requires { ⌜ Clean clean (now queue) ⌝ }
     ensures { λ _. ⌜ now (queue .exit) ≡ replicate (length (now (queue .entry))) 0 ⌝ }
 {

@@ -16,7 +16,7 @@ use Rattle.rules.specs.Search.{search}
 use Rattle.rules.specs.Bodies.{Body, Asked, queriesOf, counted, isLess, sumOf, heard, hearAll}
 use Rattle.triangles.specs.Members.{All}
 use Rattle.promise.specs.Bodies.{Named, numbered, placeOf, Own}
-use Rattle.promise.proofs.Queries.{Listed, listed, Ranked, ranked}
+use Rattle.promise.proofs.Bodies.Queries.{Listed, listed, Ranked, ranked}
 use Rattle.promise.proofs.Demands.{demand-3}
 
 -- ---- one query more
