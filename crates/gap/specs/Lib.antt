@@ -1,6 +1,7 @@
 -- F over a cell in the form that the code works it out in, and that every step of it fits.
 pub mod Corners
 pub mod Affine
+pub mod Cube
 pub mod Steps
 pub mod Bounds
 pub mod Grid

@@ -11,6 +11,7 @@ use cell::low;
 use kernel::Pair;
 use measure::excess;
 use measure::meets;
+use measure::meets_whole;
 use measure::thin;
 use points::kernel_at;
 use rules::Corner;
@@ -24,6 +25,7 @@ use weigh::weight;
 use weigh::winner;
 
 mod cell; // cell.rt: a box as its ends in parts
+mod cube; // cube.rt: the least and the greatest of F over the whole cube, on one axis
 mod measure; // measure.rt: what F at the corners says: survival, excess, width
 mod points; // points.rt: the kernel of an axis, from the coordinates of the eight points
 mod span; // span.rt: the least and the greatest of F over a cell's corners, on one axis
@@ -51,8 +53,15 @@ pub fn survives_whole(p: Pair) -> bool
     requires { ⌜ Ranged p ⌝ }
     ensures { λ r. ⌜ r ≡ survives (asked p) origin origin ⌝ }
 {
-    let whole = Three { t: 0, u: 0, v: 0 };
-    survives(p, whole, whole)
+    if meets_whole(p.x, p.dx) {
+        if meets_whole(p.y, p.dy) {
+            meets_whole(p.z, p.dz)
+        } else {
+            false
+        }
+    } else {
+        false
+    }
 }
 
 // Whether a half is kept: for vertex-face its low u plus low v is at most 1.

@@ -1,10 +1,17 @@
 // What F at a cell's corners says: on one axis, and on all three.
 ghost use mathlib.Core.Path.{_≡_};
+ghost use mathlib.Core.Bool.{_&&_};
 ghost use Prim.Native.Nat.{_≤_, _*_, _-_};
+ghost use lib.IntN.{negℤ};
+ghost use lib.Signed.{leZ};
+ghost use Rattle.whole.specs.Within.{Within};
 ghost use Rattle.kernel.specs.Ranges.{Small, Ranged};
 ghost use Rattle.gap.specs.Corners.{meets, beyond, excessOf, isNarrow, isThin};
-ghost use Rattle.gap.specs.Steps.{InParts};
+ghost use Rattle.gap.specs.Cube.{wholeCube};
+ghost use Rattle.gap.specs.Steps.{InParts, termMost};
 use super::cell::Cell;
+use super::cube::over_cube;
+use super::span::Span;
 use super::span::at_moment;
 use super::span::over_corners;
 use super::span::value;
@@ -16,14 +23,30 @@ use whole::size;
 // A unit of F times parts·parts.
 const UNIT: u64 = 1099511627776;
 
+// Whether a span comes within the limit of 0.
+fn comes_within(s: Span, limit: i64) -> bool
+    requires { ⌜ Within termMost limit ⌝ }
+    ensures { λ r. ⌜ r ≡ leZ (s .least) limit && leZ (negℤ limit) (s .greatest) ⌝ }
+{
+    (s.least <= limit) & (-limit <= s.greatest)
+}
+
 // Whether F comes within d of 0 on one axis, as far as the corners tell.
 pub fn meets(k: Kernel, w: Cell, d: u64) -> bool
     requires { ⌜ Small k × (InParts w × (d ≤ 65536)) ⌝ }
     ensures { λ r. ⌜ r ≡ meets k w d ⌝ }
 {
     let s = over_corners(k, w);
-    let limit = (d * UNIT) as i64;
-    (s.least <= limit) & (-limit <= s.greatest)
+    comes_within(s, (d * UNIT) as i64)
+}
+
+// The same over the whole cube, where whole units do.
+pub fn meets_whole(k: Kernel, d: u64) -> bool
+    requires { ⌜ Small k × (d ≤ 65536) ⌝ }
+    ensures { λ r. ⌜ r ≡ meets k wholeCube d ⌝ }
+{
+    let s = over_cube(k);
+    comes_within(s, d as i64)
 }
 
 // By how much F is beyond d units on one axis, at the low corner.

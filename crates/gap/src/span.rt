@@ -60,7 +60,7 @@ fn reach(lo: u64, hi: u64, s: i64) -> Span
 }
 
 // A number and two spans, added.
-fn sum(x: i64, s: Span, t: Span) -> Span
+pub fn sum(x: i64, s: Span, t: Span) -> Span
     requires { ⌜ Within termMost x × (SmallSpan termMost s × SmallSpan termMost t) ⌝ }
     ensures { λ r. ⌜ r ≡ summed x s t ⌝ }
 {
@@ -83,7 +83,7 @@ fn over_face(m: Moment, w: Cell) -> Span
 }
 
 // The span of two spans.
-fn join(s: Span, t: Span) -> Span
+pub fn join(s: Span, t: Span) -> Span
     ensures { λ r. ⌜ r ≡ joined s t ⌝ }
 {
     let m = whole::least(s.least, t.least);

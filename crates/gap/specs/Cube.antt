@@ -1,0 +1,70 @@
+-- The whole cube, in whole units: at its corners t, u and v are 0 or 1, so that F times parts·parts is a multiple of a unit.
+use mathlib.Core.Path.{_≡_, sym, ap, ap₂, _∙_}
+use mathlib.Core.Bool.{_&&_}
+use mathlib.Core.List.{[], _∷_}
+use Prim.Native.Nat.{ℕ, _<_}
+use lib.Dec.{lit<}
+use lib.IntN.{ℤ, pos, negℤ, _+ℤ_, _*ℤ_, zero-*ℤ}
+use lib.Signed.{leZ}
+use Rattle.whole.specs.Defs.{minZ, maxZ}
+use Rattle.whole.specs.Laws.{neg-mul}
+use Rattle.whole.specs.Order.{min-add, max-add, scale-test, min-scale, max-scale}
+use Rattle.whole.specs.Ring.{var, num, _:+_, _:*_, _:-_, ring}
+use Rattle.rules.specs.Numbers.{parts}
+use Rattle.rules.specs.Search.{unit, origin}
+use Rattle.kernel.specs.declared.Kernel.{Kernel}
+use Rattle.gap.specs.declared.cell.Cell.{Cell}
+use Rattle.gap.specs.declared.span.Moment.{Moment}
+use Rattle.gap.specs.declared.span.Span.{Span}
+use Rattle.gap.specs.Corners.{cellOf, blended, momentOf, over, meets, spanOf, summed, joined}
+use Rattle.gap.specs.Affine.{over-at}
+
+abbrev pub wholeCube : Cell
+wholeCube = cellOf origin origin
+
+-- over u and v, at the start or at the end
+abbrev pub squareOf : ℤ → ℤ → ℤ → Span
+squareOf a b c = summed a (spanOf (pos 0) b) (spanOf (pos 0) c)
+
+abbrev pub cubeOf : Kernel → Span
+cubeOf K = joined (squareOf (K .a0) (K .b0) (K .c0)) (squareOf (K .a1) (K .b1) (K .c1))
+
+above : 0 < unit
+above = lit< tt
+
+-- a number of the kernel that counts in full, at the start and at the end
+at-start : (x y : ℤ) → pos parts *ℤ blended (pos 0) x y ≡ x *ℤ pos unit
+at-start x y = ring (pos parts ∷ x ∷ y ∷ []) (var 0 :* ((var 0 :- num (pos 0)) :* var 1 :+ num (pos 0) :* var 2)) (var 1 :* (var 0 :* var 0)) tt
+
+at-end : (x y : ℤ) → pos parts *ℤ blended (pos parts) x y ≡ y *ℤ pos unit
+at-end x y = ring (pos parts ∷ x ∷ y ∷ []) (var 0 :* ((var 0 :- var 0) :* var 1 :+ var 0 :* var 2)) (var 2 :* (var 0 :* var 0)) tt
+
+-- a pick that a sum and a multiple go through, as the least and the greatest
+module _ (pick : ℤ → ℤ → ℤ) (add : (x y z : ℤ) → pick (x +ℤ y) (x +ℤ z) ≡ x +ℤ pick y z) (scale : (x y : ℤ) → pick (x *ℤ pos unit) (y *ℤ pos unit) ≡ pick x y *ℤ pos unit) where
+  abbrev square : ℤ → ℤ → ℤ → ℤ
+  square a b c = a +ℤ pick (pos 0) b +ℤ pick (pos 0) c
+
+  term : (m b : ℤ) → pos parts *ℤ m ≡ b *ℤ pos unit → pick (pos 0 *ℤ m) (pos parts *ℤ m) ≡ pick (pos 0) b *ℤ pos unit
+  term m b e = ap₂ pick (zero-*ℤ m) e ∙ scale (pos 0) b
+
+  at : (m : Moment) (a b c : ℤ) → pos parts *ℤ m .a ≡ a *ℤ pos unit → pos parts *ℤ m .b ≡ b *ℤ pos unit → pos parts *ℤ m .c ≡ c *ℤ pos unit
+      → pos parts *ℤ m .a +ℤ pick (pos 0 *ℤ m .b) (pos parts *ℤ m .b) +ℤ pick (pos 0 *ℤ m .c) (pos parts *ℤ m .c) ≡ square a b c *ℤ pos unit
+  at m a b c f g h =
+      ap₂ _+ℤ_ (ap₂ _+ℤ_ f (term (m .b) b g)) (term (m .c) c h)
+      ∙ ring (a ∷ pick (pos 0) b ∷ pick (pos 0) c ∷ pos unit ∷ []) (var 0 :* var 3 :+ var 1 :* var 3 :+ var 2 :* var 3) ((var 0 :+ var 1 :+ var 2) :* var 3) tt
+
+  over-cube : (K : Kernel) → over pick K wholeCube ≡ pick (square (K .a0) (K .b0) (K .c0)) (square (K .a1) (K .b1) (K .c1)) *ℤ pos unit
+  over-cube K =
+      sym (over-at pick add K wholeCube)
+      ∙ ap₂ pick
+      (at (momentOf K 0) (K .a0) (K .b0) (K .c0) (at-start (K .a0) (K .a1)) (at-start (K .b0) (K .b1)) (at-start (K .c0) (K .c1)))
+      (at (momentOf K parts) (K .a1) (K .b1) (K .c1) (at-end (K .a0) (K .a1)) (at-end (K .b0) (K .b1)) (at-end (K .c0) (K .c1)))
+      ∙ scale (square (K .a0) (K .b0) (K .c0)) (square (K .a1) (K .b1) (K .c1))
+
+pub meets-whole : (K : Kernel) (d : ℕ) → (leZ (cubeOf K .least) (pos d) && leZ (negℤ (pos d)) (cubeOf K .greatest)) ≡ meets K wholeCube d
+unfolding meets
+meets-whole K d =
+    sym
+    (ap₂ _&&_
+    (ap (λ (m : ℤ). leZ m (pos d *ℤ pos unit)) (over-cube minZ min-add (min-scale unit above) K) ∙ scale-test unit above (cubeOf K .least) (pos d))
+    (ap₂ leZ (sym (neg-mul (pos d) (pos unit))) (over-cube maxZ max-add (max-scale unit above) K) ∙ scale-test unit above (negℤ (pos d)) (cubeOf K .greatest)))
