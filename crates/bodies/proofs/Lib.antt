@@ -1,6 +1,6 @@
 -- Laws that the proofs share.
 pub mod Fifteen
 pub mod Walking
-pub mod Hearing
+pub mod Holder
 pub mod Refusing
 pub mod Settling

@@ -1,5 +1,5 @@
 -- The check in one pass, step by step: what each step settles of R-6's plain rule. Assumes nothing.
-use Prim.Native.Nat.{ℕ, zero, suc, _+_, _*_, _≤_}
+use Prim.Native.Nat.{ℕ, zero, suc}
 use mathlib.Core.Path.{_≡_, refl, sym, ap, _∙_}
 use mathlib.Core.Bool.{Bool, true, false, not, cond, _&&_, and-eq-true-iff}
 use native.Mathlib.Omega.{arith}
@@ -8,7 +8,7 @@ use lib.ListN.{length, replicate}
 use Rattle.rules.specs.declared.Terms.{Terms}
 use Rattle.rules.specs.Refusals.{orElse, searchRefusal}
 use Rattle.rules.specs.declared.BodyAnswer.the-variants.{Clear}
-use Rattle.rules.specs.Bodies.{Body, isBody, face, askOf, queriesOf, firstRefused, bodyRefusal, sumOf}
+use Rattle.rules.specs.Bodies.{Body, isBody, face, askOf, queriesOf, bodyRefusal, sumOf}
 use Rattle.triangles.specs.InOrder.{none-refused, accepted}
 use Rattle.bodies.specs.Asking.{There}
 use Rattle.bodies.specs.Walk.{ToHear}

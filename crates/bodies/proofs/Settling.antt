@@ -1,7 +1,6 @@
 -- Refused or answered: what comes back, what is told, and what is left of the queue. Assumes nothing.
 use Prim.Native.Nat.{ℕ, zero, suc, _≤_, _<_}
 use mathlib.Core.Path.{_≡_, refl, sym, ap, _∙_}
-use mathlib.Core.Bool.{Bool}
 use mathlib.Core.List.{List, [], _∷_}
 use borrow.Author.Tests.{lt-ltb, le-ltb}
 use lib.ListN.{length, replicate}

@@ -3,7 +3,7 @@
 --     going-asks   the next part may be heard, and `going-more` when it was
 --     pair-next, each-next   the next part of a pair's queries, of a row's and of the bodies'
 -- Assumes nothing.
-use Prim.Native.Nat.{ℕ, zero, suc, _+_, _*_, _-_, _≤_, _<_}
+use Prim.Native.Nat.{ℕ, zero, suc, _+_, _-_, _≤_, _<_}
 use mathlib.Core.Path.{_≡_, refl, sym, ap, subst, _∙_}
 use mathlib.Core.List.{List, [], _∷_, _++_}
 use native.Mathlib.Omega.{arith}
@@ -17,8 +17,8 @@ use Rattle.rules.specs.declared.BodyAnswer.{BodyAnswer}
 use Rattle.rules.specs.Answers.{told}
 use Rattle.rules.specs.Refusals.{searchRefusal}
 use Rattle.rules.specs.Search.{search as searched}
-use Rattle.rules.specs.Bodies.{Body, Asked, face, fifteen, askOf, askedFrom, pairQueries, eachFrom, queriesOf, heard, hearAll}
-use Rattle.triangles.specs.Members.{All, askAt, parts}
+use Rattle.rules.specs.Bodies.{Body, Asked, face, fifteen, askOf, askedFrom, eachFrom, queriesOf, heard, hearAll}
+use Rattle.triangles.specs.Members.{All, parts}
 use Rattle.triangles.specs.InOrder.{hearAll-append}
 use Rattle.bodies.specs.Asking.{body}
 use Rattle.bodies.specs.Walk.{positions, SumRoom, Grows, ToHear, Heard, queryAlone, rowQueries}

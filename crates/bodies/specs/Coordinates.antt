@@ -1,7 +1,7 @@
 -- All queries' coordinates are right exactly where the bodies' are: every corner is in some query.
 -- Assumes nothing.
 use Prim.Native.Nat.{ℕ, zero, suc, _+_, _*_, _/_, _%_, _<_}
-use mathlib.Core.Path.{_≡_, refl, sym, subst, _∙_}
+use mathlib.Core.Path.{_≡_, refl, subst}
 use mathlib.Core.Bool.{Bool, true, false, cond, _&&_, and-eq-true-iff}
 use mathlib.Core.List.{List, [], _∷_}
 use native.Mathlib.Omega.{arith}
@@ -15,7 +15,7 @@ use Rattle.rules.specs.Refusals.{every}
 use Rattle.rules.specs.Bodies.{Body, Asked, xyz, cornerOf, cornerPlace, fourOf, askOf, queriesOf}
 use Rattle.refusals.specs.Every.{every-at}
 use Rattle.bodies.specs.OnePass.{allRight}
-use Rattle.triangles.specs.Members.{askAt, All, asked, member, all-of}
+use Rattle.triangles.specs.Members.{askAt, All, member, all-of}
 
 abbrev pub Right : List ℤ → Type 0
 Right s = every isCoordinate s ≡ true

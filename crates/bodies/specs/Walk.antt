@@ -8,7 +8,6 @@ use Rattle.rules.specs.declared.Record.{Record}
 use Rattle.rules.specs.declared.Told.{Told}
 use Rattle.rules.specs.declared.Terms.{Terms}
 use Rattle.rules.specs.declared.BodyAnswer.{BodyAnswer}
-use Rattle.rules.specs.declared.BodyAnswer.the-variants.{Clear}
 use Rattle.rules.specs.Refusals.{searchRefusal}
 use Rattle.rules.specs.Bodies.{Body, Asked, pairQueries, eachFrom, bodyRefusal, sumOf, heard, hearAll}
 use Rattle.triangles.specs.Members.{All, asked, askAt}

@@ -1,29 +1,27 @@
 // Two bodies of triangles, a gangway and a hull: fifteen queries a triangle pair, the least time and the sum of counts.
 ghost use mathlib.Core.Path.{_≡_};
-ghost use Prim.Native.Nat.{_+_, _≤_};
 ghost use lib.ListN.{length};
 ghost use Rattle.rules.specs.declared.BodyAnswer.the-variants.{Clear};
 ghost use Rattle.rules.specs.Numbers.{isCoordinate};
 ghost use Rattle.rules.specs.Refusals.{every};
-ghost use Rattle.rules.specs.Answers.{hasMoment};
-ghost use Rattle.rules.specs.Bodies.{isBody, isLess, sumOf, counted, pairQueries, queriesOf, bodyRefusal};
-ghost use Rattle.triangles.specs.Members.{asked, askAt};
-ghost use Rattle.rules.specs.QueryFile.{put};
+ghost use Rattle.rules.specs.Bodies.{isBody, pairQueries, queriesOf, bodyRefusal};
 ghost use Rattle.bodies.specs.Asking.{body};
-ghost use Rattle.bodies.specs.Telling.{low, high, bodyTold, Answered, Tells};
-ghost use Rattle.bodies.specs.Walk.{positions, SumRoom, HeardIs, OfQuery, OfPair, OfRow, OfBodies, Heard, queryAlone, rowQueries};
+ghost use Rattle.bodies.specs.Telling.{Answered, Tells};
+ghost use Rattle.bodies.specs.Walk.{positions, OfQuery, OfPair, OfRow, OfBodies, Heard, queryAlone, rowQueries};
 use answers::numbers;
-use answers::write_four;
 use asking::query_at;
+use hearing::heard;
 use refusals::is_coordinate;
 use refusals::search_refusal;
 use rules::BodyAnswer;
 use rules::Terms;
-use rules::Told;
 use search::clear_unless;
 use search::search_accepted;
+use telling::write_told;
 
 pub mod asking; // asking.rt: one query of a triangle pair
+mod hearing; // hearing.rt: what the queries come to
+mod telling; // telling.rt: an answer in eight numbers
 
 // ---- every query checked, in one pass over the coordinates
 
@@ -74,97 +72,7 @@ pub fn body_refusal(
     if right { 0 } else { 3 }
 }
 
-// ---- what the queries come to
-
-fn has_moment(n: Told) -> bool
-    ensures { λ r. ⌜ r ≡ hasMoment n ⌝ }
-{
-    let word = n.word;
-    (word == 1) | (word == 3) | (word == 4) | (word == 5)
-}
-
-fn is_less(t: u32, sofar: BodyAnswer) -> bool
-    ensures { λ r. ⌜ r ≡ isLess t sofar ⌝ }
-{
-    match sofar {
-        BodyAnswer::Clear(sum) => true,
-        BodyAnswer::Least {
-            t: least,
-            a,
-            b,
-            query,
-            word,
-            excess,
-            count,
-        } => t < least,
-        BodyAnswer::Refused(number) => false,
-    }
-}
-
-fn sum_of(sofar: BodyAnswer) -> u64
-    ensures { λ r. ⌜ r ≡ sumOf sofar ⌝ }
-{
-    match sofar {
-        BodyAnswer::Clear(sum) => sum,
-        BodyAnswer::Least {
-            t,
-            a,
-            b,
-            query,
-            word,
-            excess,
-            count,
-        } => count,
-        BodyAnswer::Refused(number) => 0,
-    }
-}
-
-fn counted(n: u64, sofar: BodyAnswer) -> BodyAnswer
-    requires { ⌜ sumOf sofar + n ≤ 18446744073709551615 ⌝ }
-    ensures { λ r. ⌜ r ≡ counted n sofar ⌝ }
-{
-    match sofar {
-        BodyAnswer::Clear(sum) => BodyAnswer::Clear(sum + n),
-        BodyAnswer::Least {
-            t,
-            a,
-            b,
-            query,
-            word,
-            excess,
-            count,
-        } => BodyAnswer::Least {
-            t,
-            a,
-            b,
-            query,
-            word,
-            excess,
-            count: count + n,
-        },
-        BodyAnswer::Refused(number) => BodyAnswer::Refused(number),
-    }
-}
-
-// What was heard so far, and one query's answer more: it takes the place of the least only with a time that is less.
-fn heard(sofar: BodyAnswer, a: u32, b: u32, query: u32, n: Told) -> BodyAnswer
-    requires { ⌜ SumRoom 1 sofar ⌝ }
-    ensures { λ r. ⌜ HeardIs sofar a b query n r ⌝ }
-{
-    if has_moment(n) & is_less(n.t, sofar) {
-        let least = BodyAnswer::Least {
-            t: n.t,
-            a,
-            b,
-            query,
-            word: n.word,
-            excess: n.excess,
-            count: sum_of(sofar),
-        };
-        return counted(n.count as u64, least);
-    }
-    counted(n.count as u64, sofar)
-}
+// ---- every query heard
 
 // Query k of the pair i, j, from 0.
 fn hear_query(
@@ -293,46 +201,6 @@ pub fn search_bodies(
         return BodyAnswer::Refused(number);
     }
     walk(w, m, a0, a1, n, b0, b1, queue)
-}
-
-// ---- an answer in eight numbers
-
-fn low(sum: u64) -> u32
-    ensures { λ r. ⌜ r ≡ low sum ⌝ }
-{
-    (sum % 4294967296) as u32
-}
-
-fn high(sum: u64) -> u32
-    ensures { λ r. ⌜ r ≡ high sum ⌝ }
-{
-    (sum / 4294967296) as u32
-}
-
-// The eight numbers of an answer; a refusal is not told in them.
-fn write_told(out: &mut [u32], answer: BodyAnswer)
-    requires { ⌜ 8 ≤ length (now out) ⌝ }
-    ensures { λ _. ⌜ now (out .exit) ≡ put (now (out .entry)) 0 (bodyTold answer) ⌝ }
-{
-    match answer {
-        BodyAnswer::Clear(sum) => {
-            write_four(out, 0, 2, 0, 0, 0);
-            write_four(out, 4, 0, 0, low(sum), high(sum));
-        }
-        BodyAnswer::Least {
-            t,
-            a,
-            b,
-            query,
-            word,
-            excess,
-            count,
-        } => {
-            write_four(out, 0, word, t, a, b);
-            write_four(out, 4, query, excess, low(count), high(count));
-        }
-        BodyAnswer::Refused(number) => {}
-    }
 }
 
 // Two bodies, told in eight numbers; 21 and the queries' own numbers come before 14.

@@ -1,11 +1,8 @@
 -- `bodies::body_refusal` meets its contract: the bodies, then the first query, then all positions. Assumes nothing.
-use mathlib.Core.Path.{_≡_, sym, ap, _∙_}
-use mathlib.Core.Bool.{Bool, true, false, _&&_}
-use Prim.Native.Nat.{ℕ}
+use mathlib.Core.Path.{sym, ap, _∙_}
 use native.Mathlib.Omega.{arith}
 use Rattle.rules.specs.declared.Record.{Record}
 use Rattle.rules.specs.Refusals.{searchRefusal}
-use Rattle.rules.specs.Bodies.{isBody}
 use Rattle.bodies.specs.Asking.{body}
 use Rattle.bodies.proofs.Refusing.{both, turned, no-bodies, first-refused, by-positions, starts-there, ends-there}
 use borrow.Author.Needs.{needs}

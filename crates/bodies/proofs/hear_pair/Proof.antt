@@ -1,11 +1,10 @@
 -- `bodies::hear_pair` meets its contract: query after query. Assumes nothing.
-use Prim.Native.Nat.{ℕ, _+_, _*_, _-_, _≤_}
+use Prim.Native.Nat.{_-_, _≤_}
 use mathlib.Core.Path.{refl, ap}
-use mathlib.Core.List.{List}
 use native.Mathlib.Omega.{arith}
 use lib.ListN.{length}
 use Rattle.rules.specs.Bodies.{pairQueries}
-use Rattle.bodies.specs.Walk.{positions, queryAlone}
+use Rattle.bodies.specs.Walk.{positions}
 use Rattle.bodies.proofs.Walking.{Going, going-none, going-asks, going-more, going-all, pairLeft, pair-next, pair-end}
 use Rattle.bodies.proofs.hear_pair.Statement.{statement}
 use Rattle.bodies.proofs.hear_pair.Tie as tie

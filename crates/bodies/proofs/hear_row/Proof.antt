@@ -1,7 +1,6 @@
 -- `bodies::hear_row` meets its contract: pair after pair. Assumes nothing.
-use Prim.Native.Nat.{ℕ, _+_, _*_, _-_, _≤_}
+use Prim.Native.Nat.{_*_, _-_, _≤_}
 use mathlib.Core.Path.{ap}
-use mathlib.Core.List.{List}
 use native.Mathlib.Omega.{arith}
 use lib.ListN.{length}
 use Rattle.rules.specs.Bodies.{pairQueries}

@@ -1,6 +1,5 @@
 -- What is not refused is prepared; apart over the whole cube it is clear, and else the queue of zeros is lent on.
 use mathlib.Core.Path.{refl, sym, ap, _∙_}
-use Prim.Native.Nat.{ℕ, _/_}
 use lib.ListN.{length}
 use Rattle.rules.specs.Search.{Query, run}
 use Rattle.search.proofs.Running.{apart, search-run}

@@ -1,9 +1,9 @@
--- `bodies::is_less` meets its contract: an arm for each case. Assumes nothing.
+-- `bodies::hearing::is_less` meets its contract: an arm for each case. Assumes nothing.
 use mathlib.Core.Path.{sym, ap}
 use Rattle.rules.specs.Bodies.{isLess}
 use borrow.Author.Needs.{needs}
-use Rattle.bodies.proofs.is_less.Statement.{statement}
-use Rattle.bodies.proofs.is_less.Tie as tie
+use Rattle.bodies.proofs.hearing.is_less.Statement.{statement}
+use Rattle.bodies.proofs.hearing.is_less.Tie as tie
 
 enum-known-sofar : tie.Need-enum-known-sofar
 enum-known-sofar c = search needs

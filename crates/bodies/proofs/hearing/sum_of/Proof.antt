@@ -1,9 +1,9 @@
--- `bodies::sum_of` meets its contract: an arm for each case. Assumes nothing.
+-- `bodies::hearing::sum_of` meets its contract: an arm for each case. Assumes nothing.
 use mathlib.Core.Path.{sym, ap}
 use Rattle.rules.specs.Bodies.{sumOf}
 use borrow.Author.Needs.{needs}
-use Rattle.bodies.proofs.sum_of.Statement.{statement}
-use Rattle.bodies.proofs.sum_of.Tie as tie
+use Rattle.bodies.proofs.hearing.sum_of.Statement.{statement}
+use Rattle.bodies.proofs.hearing.sum_of.Tie as tie
 
 enum-known-sofar : tie.Need-enum-known-sofar
 enum-known-sofar c = search needs

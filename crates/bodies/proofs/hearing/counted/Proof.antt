@@ -1,10 +1,10 @@
--- `bodies::counted` meets its contract: an arm for each case. Assumes nothing.
+-- `bodies::hearing::counted` meets its contract: an arm for each case. Assumes nothing.
 use mathlib.Core.Path.{sym, ap}
 use native.Mathlib.Omega.{arith}
 use Rattle.rules.specs.Bodies.{sumOf, counted}
 use borrow.Author.Needs.{needs}
-use Rattle.bodies.proofs.counted.Statement.{statement}
-use Rattle.bodies.proofs.counted.Tie as tie
+use Rattle.bodies.proofs.hearing.counted.Statement.{statement}
+use Rattle.bodies.proofs.hearing.counted.Tie as tie
 
 enum-known-sofar : tie.Need-enum-known-sofar
 enum-known-sofar c = search needs

@@ -1,6 +1,6 @@
--- `bodies::write_told` meets its contract: two runs of four, the second right behind the first. Assumes nothing.
+-- `bodies::telling::write_told` meets its contract: two runs of four, the second right behind the first. Assumes nothing.
 use mathlib.Core.Path.{refl, sym, ap, _∙_}
-use mathlib.Core.List.{List, [], _∷_}
+use mathlib.Core.List.{[], _∷_}
 use Prim.Native.Nat.{ℕ}
 use native.Mathlib.Omega.{arith}
 use Rattle.rules.specs.declared.BodyAnswer.{BodyAnswer}
@@ -8,8 +8,8 @@ use Rattle.rules.specs.QueryFile.{put}
 use Rattle.little.specs.Put.{one-more}
 use Rattle.bodies.specs.Telling.{low, bodyTold}
 use borrow.Author.Needs.{needs}
-use Rattle.bodies.proofs.write_told.Statement.{statement}
-use Rattle.bodies.proofs.write_told.Tie as tie
+use Rattle.bodies.proofs.telling.write_told.Statement.{statement}
+use Rattle.bodies.proofs.telling.write_told.Tie as tie
 
 enum-known-answer : tie.Need-enum-known-answer
 enum-known-answer c = search needs

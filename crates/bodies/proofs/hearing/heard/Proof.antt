@@ -1,11 +1,11 @@
--- `bodies::heard` meets its contract: the answer is the least so far, or what was heard stands. Assumes nothing.
-use mathlib.Core.Path.{_≡_, sym, ap, _∙_}
+-- `bodies::hearing::heard` meets its contract: the answer is the least so far, or what was heard stands. Assumes nothing.
+use mathlib.Core.Path.{sym, _∙_}
 use native.Mathlib.Omega.{arith}
 use Rattle.bodies.proofs.Refusing.{both}
-use Rattle.bodies.proofs.Hearing.{sum-least, takes-over, stays}
+use Rattle.bodies.proofs.Holder.{sum-least, takes-over, stays}
 use borrow.Author.Needs.{needs}
-use Rattle.bodies.proofs.heard.Statement.{statement}
-use Rattle.bodies.proofs.heard.Tie as tie
+use Rattle.bodies.proofs.hearing.heard.Statement.{statement}
+use Rattle.bodies.proofs.hearing.heard.Tie as tie
 
 has-moment-requires : tie.Need-has-moment-requires
 has-moment-requires c κs = search needs
