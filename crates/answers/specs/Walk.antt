@@ -1,15 +1,15 @@
 -- The records of a file searched one after the other, each as if it were alone.
 use Prim.Native.Nat.{ℕ, zero, suc, _+_, _*_}
 use mathlib.Core.Path.{_≡_}
-use mathlib.Core.Bool.{Bool, not}
+use mathlib.Core.Bool.{not}
 use mathlib.Core.List.{List, [], _∷_, _++_}
 use lib.Dec.{ltb}
-use lib.ListN.{length, getD}
+use lib.ListN.{length}
 use Rattle.rules.specs.declared.Record.{Record}
 use Rattle.rules.specs.Answers.{told, queueAfter}
 use Rattle.rules.specs.Refusals.{Case, first}
 use Rattle.rules.specs.Search.{search}
-use Rattle.rules.specs.QueryFile.{recordSize, recordAt, editionOf, fileForm, trailerPlace, backPointer, recordCount, placeOf, openCases, putUnless}
+use Rattle.rules.specs.QueryFile.{recordSize, recordAt, editionOf, fileForm, recordCount, placeOf, openCases, putUnless}
 use Rattle.answers.specs.Eight.{eight}
 
 -- what is told of a record that is searched with so many words

@@ -2,7 +2,7 @@
 use mathlib.Core.Path.{_≡_}
 use mathlib.Core.List.{List, [], _∷_}
 use Prim.Native.Nat.{ℕ, _+_}
-use lib.IntN.{ℤ, pos, _+ℤ_, _-ℤ_, _*ℤ_}
+use lib.IntN.{ℤ, pos, _+ℤ_, _*ℤ_}
 use Rattle.whole.specs.Ring.{Ex, var, _:+_, _:*_, _:-_, ring}
 use Rattle.kernel.specs.declared.Kernel.{Kernel}
 use Rattle.kernel.specs.Kernel.{kern}

@@ -1,5 +1,5 @@
 -- What the inner functions may rely on, once refusals 1 to 7 are past.
-use Prim.Native.Nat.{ℕ, _^_, _≤_, _<_}
+use Prim.Native.Nat.{_^_, _≤_, _<_}
 use Rattle.whole.specs.Within.{Within}
 use Rattle.rules.specs.declared.Three.{Three}
 use Rattle.kernel.specs.declared.Kernel.{Kernel}

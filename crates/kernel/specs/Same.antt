@@ -1,12 +1,11 @@
 -- The kernel form is that of equations (1) and (2), and a pair made of a record's kernels asks what the record asks.
-use mathlib.Core.Path.{_≡_, refl, sym, ap, _∙_}
-use mathlib.Core.Bool.{Bool, true, false, cond}
+use mathlib.Core.Path.{_≡_}
+use mathlib.Core.Bool.{Bool, true, false}
 use mathlib.Core.List.{List, [], _∷_}
 use Prim.Native.Nat.{ℕ, _+_, _*_}
-use lib.IntN.{ℤ, pos, _+ℤ_, _-ℤ_, _*ℤ_}
+use lib.IntN.{ℤ, pos}
 use Rattle.whole.specs.Ring.{Ex, var, _:+_, _:*_, _:-_, ring}
 use Rattle.rules.specs.Gap.{Axis, moving, vertexFace, edgeEdge, gapOn}
-use Rattle.kernel.specs.declared.Kernel.{Kernel}
 use Rattle.kernel.specs.Kernel.{kern, coordinate, kernelOf}
 
 -- expressions over q, a, b, c (0 to 3), and the four coordinates at the start (4 to 7) and at the end (8 to 11)

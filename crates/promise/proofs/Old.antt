@@ -1,7 +1,7 @@
 -- What the old rules gave, the search of a record with three equal separations gives: OldRules' law. Assumes nothing.
 use Prim.Native.Nat.{ℕ, zero, suc, _+_, _*_, _-_, max}
-use mathlib.Core.Path.{_≡_, refl, sym, ap, _∙_}
-use mathlib.Core.Bool.{Bool, true, false, not, _&&_, _||_, and-true}
+use mathlib.Core.Path.{_≡_, refl, ap, _∙_}
+use mathlib.Core.Bool.{Bool, true, false, _&&_, _||_, and-true}
 use mathlib.Core.List.{List, [], _∷_}
 use native.Mathlib.Omega.{arith}
 use lib.IntN.{pos, negℤ, natAbs}
@@ -9,13 +9,12 @@ use lib.Signed.{leZ}
 use lib.Dec.{leb, eqb}
 use Rattle.rules.specs.declared.Record.{Record}
 use Rattle.rules.specs.declared.Corner.{Corner}
-use Rattle.rules.specs.declared.Answer.{Answer}
 use Rattle.rules.specs.Numbers.{parts, isSeparation}
 use Rattle.rules.specs.Gap.{Axis, X, Y, Z, separationOn}
 use Rattle.rules.specs.Refusals.{first, searchRefusal}
 use Rattle.rules.specs.Search.{Query, query, Box, Depths, low, unit, least, greatest, onAll, largest, width, roundUp, excess, corner, near, survives, Checked, keep, firstSurvivor, full, oneBox, check, afterLevel, levels, run, origin, unless, search}
 use Rattle.rules.specs.QueryFile.{word, recordBy, recordAt}
-use Rattle.promise.specs.OldRules.{oldSurvives, oldGap, oldExcess, oldCorner, oldNear, oldOneBox, oldCheck, oldLevels, oldRun, oldRefusal, oldSearch, Three-equal, Edition-1-as-before}
+use Rattle.promise.specs.OldRules.{oldSurvives, oldExcess, oldCorner, oldNear, oldOneBox, oldCheck, oldLevels, oldRun, oldRefusal, oldSearch, Three-equal, Edition-1-as-before}
 
 -- the largest of three numbers less one is the largest, less it
 largest-less : (f : Axis → ℕ) (m : ℕ) → largest (λ axis. f axis - m) ≡ largest f - m

@@ -19,7 +19,7 @@ use Rattle.rules.specs.declared.Form.{Form}
 use Rattle.rules.specs.declared.Wrote.{Wrote}
 use Rattle.rules.specs.declared.Wrote.the-variants.{Done, Refused}
 use Rattle.rules.specs.Refusals.{Case, first, casesWith}
-use Rattle.rules.specs.QueryFile.{isEdition, isWide, sizeBy, recordSize, queryForm, put, noEdition, space, hasRoom, writeRefusal, trailerCases, trailerRefusal, queryTrailerRefusal, wroteUnless, putUnless, Written}
+use Rattle.rules.specs.QueryFile.{isEdition, isWide, sizeBy, recordSize, queryForm, put, noEdition, space, hasRoom, writeRefusal, trailerRefusal, queryTrailerRefusal, wroteUnless, putUnless, Written}
 use Rattle.refusals.specs.Cases.{firstOr, first-append, not-due}
 use Rattle.refusals.specs.Accepted.{Accepted, accepted-with}
 

@@ -1,9 +1,9 @@
 // Rows 1 to 7 of document 01's table, lowest number first. The search and the query file share them.
 ghost use mathlib.Core.Path.{_≡_};
-ghost use mathlib.Core.Bool.{_&&_, _||_, cond};
-ghost use lib.Dec.{eqb, leb};
+ghost use mathlib.Core.Bool.{_||_, cond};
+ghost use lib.Dec.{eqb};
 ghost use Rattle.rules.specs.Numbers.{between, isCoordinate, isQueue};
-ghost use Rattle.rules.specs.Refusals.{every, areFlags, areSeparations, recordCases, casesWith, recordRefusal, searchRefusal};
+ghost use Rattle.rules.specs.Refusals.{every, areFlags, areSeparations, casesWith, recordRefusal, searchRefusal};
 ghost use Rattle.refusals.specs.Cases.{firstOr};
 use rules::Record;
 

@@ -1,7 +1,7 @@
 -- Document 01, "Gap". "Rational t, u, v are whole numbers over one common positive whole number q. F times q·q is then a whole number":
 -- t, u, v are a/q, b/q, c/q; a moving point's coordinate is worked out times q, and F times q·q.
-use Prim.Native.Nat.{ℕ, zero, suc, _+_, _*_, _%_, _/_, _≤_, _<_}
-use mathlib.Core.Bool.{Bool, true, false, cond, _&&_}
+use Prim.Native.Nat.{ℕ, _+_, _*_, _%_, _/_, _≤_, _<_}
+use mathlib.Core.Bool.{Bool, cond, _&&_}
 use mathlib.Core.List.{List, [], _∷_}
 use lib.IntN.{ℤ, pos, negℤ, natAbs, _+ℤ_, _-ℤ_, _*ℤ_}
 use lib.ListN.{getD}

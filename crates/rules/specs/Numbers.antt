@@ -1,7 +1,7 @@
 -- Document 01, "Numbers". One unit is 1/8 mm.
 use Prim.Native.Nat.{ℕ, _/_}
 use mathlib.Core.Bool.{Bool, _&&_}
-use lib.IntN.{ℤ, pos, negℤ, natAbs}
+use lib.IntN.{ℤ, natAbs}
 use lib.Dec.{leb}
 
 abbrev pub between : ℕ → ℕ → ℕ → Bool

@@ -1,18 +1,17 @@
 -- What is printed is the text of the input, by how it is refused or opens. Assumes nothing.
 use Prim.Native.Nat.{ℕ, zero, suc, _+_, _*_, _≤_, _<_}
 use mathlib.Core.Path.{_≡_, refl, sym, ap, _∙_}
-use mathlib.Core.Bool.{Bool, true, false, _&&_}
+use mathlib.Core.Bool.{Bool, true}
 use mathlib.Core.List.{List, [], _∷_, _++_}
 use native.Mathlib.Omega.{arith}
 use borrow.Author.Tests.{le-leb, lt-ltb, le-ltb}
-use lib.Dec.{leb, ltb}
 use lib.ListN.{length, drop, length-append}
-use Rattle.rules.specs.Refusals.{Case, first}
-use Rattle.rules.specs.QueryFile.{recordSize, editionOf, fileForm, openCases, openRefusal, recordAt, recordCount, placeOf, put}
+use Rattle.rules.specs.Refusals.{first}
+use Rattle.rules.specs.QueryFile.{recordSize, editionOf, fileForm, openRefusal, recordAt, recordCount, placeOf, put}
 use Rattle.answers.specs.Walk.{tells, tellsFrom}
 use Rattle.text.specs.declared.Row.{Row}
 use Rattle.text.specs.declared.Written.{Written}
-use Rattle.text.specs.declared.Written.the-variants.{Text, Nothing}
+use Rattle.text.specs.declared.Written.the-variants.{Text}
 use Rattle.text.specs.Text.{rowOf, rows, fileText, refusedText}
 use Rattle.text.specs.Writers.{writtenIf, bufferIf, Printed, roomFor, roomForRefusal}
 use Rattle.sweep.specs.Page.{sizeOf, sweepRefusal, pageUnless, sweepText, Paged}

@@ -79,6 +79,18 @@ impl Tally {
     }
 }
 
+/// Answers by word, and the refusals that came by number.
+pub fn write_answers(f: &mut fmt::Formatter, words: &[u64; 6], refusals: &[u64]) -> fmt::Result {
+    for (name, number) in WORDS.iter().zip(words) {
+        write!(f, " {name} {number}")?;
+    }
+    write!(f, "; refusals by number")?;
+    for (n, number) in refusals.iter().enumerate().filter(|(_, number)| **number > 0) {
+        write!(f, " {n}: {number}")?;
+    }
+    Ok(())
+}
+
 impl Counts for Tally {
     fn case(&mut self, differs: bool) {
         self.files += 1;
@@ -95,13 +107,7 @@ impl fmt::Display for Tally {
         let Tally { files, differing, calls, queries: [one, two], boxes, .. } = self;
         write!(f, "{files} files, {calls} calls, {} queries", one + two)?;
         write!(f, " (edition 1: {one}, edition 2: {two}), {boxes} boxes;")?;
-        for (name, number) in WORDS.iter().zip(self.words) {
-            write!(f, " {name} {number}")?;
-        }
-        write!(f, "; refusals by number")?;
-        for (n, number) in self.refusals.iter().enumerate().filter(|(_, number)| **number > 0) {
-            write!(f, " {n}: {number}")?;
-        }
+        write_answers(f, &self.words, &self.refusals)?;
         let Tally { copies, trailers, written, .. } = self;
         if copies + trailers > 0 {
             write!(f, "; {copies} copies, {trailers} trailers, {written} files written")?;

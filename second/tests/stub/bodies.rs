@@ -6,14 +6,6 @@ use second::refusals::{check_record, check_words, Refusal};
 use second::search::{search, Answer};
 use std::slice::{from_raw_parts, from_raw_parts_mut};
 
-macro_rules! faults {
-    ($($name:ident)*) => {
-        #[derive(Clone, Copy, Debug, PartialEq, Eq)]
-        pub enum Fault { $($name),* }
-        pub const FAULTS: &[Fault] = &[$(Fault::$name),*];
-    };
-}
-
 faults! {
     None
     EdgesExchanged EdgesOfBFirst CornersOfBFirst PairsByB LaterOfEqualNamed LastOfAForgotten LastOfBForgotten

@@ -1,6 +1,15 @@
 //! A library with the proved one's functions, made from the second program, right or with one fault.
 #![allow(dead_code)]
 
+/// The faults of a stub, and a list of all of them.
+macro_rules! faults {
+    ($($name:ident)*) => {
+        #[derive(Clone, Copy, Debug, PartialEq, Eq)]
+        pub enum Fault { $($name),* }
+        pub const FAULTS: &[Fault] = &[$(Fault::$name),*];
+    };
+}
+
 pub mod bodies;
 pub mod writing;
 
@@ -12,46 +21,11 @@ use second::search::search;
 use second::told::told;
 use std::slice::{from_raw_parts, from_raw_parts_mut};
 
-#[derive(Clone, Copy, Debug, PartialEq, Eq)]
-pub enum Fault {
-    None,
-    CountOneMore,
-    ExcessOneLess,
-    LastWordLeft,
-    ClearedThoughRefused,
-    BeyondTold,
-    BeyondQueue,
-    WrittenThoughShort,
-    WrongNumber,
-    StopsAtRefused,
-    IndexCutTo32Bits,
-    SpaceBeforeIndex,
-    IdOfTheFirst,
-    CountUnwritten,
-    SeparationOfX,
-    SpareIgnored,
-    EditionOneAlone,
+faults! {
+    None CountOneMore ExcessOneLess LastWordLeft ClearedThoughRefused BeyondTold
+    BeyondQueue WrittenThoughShort WrongNumber StopsAtRefused IndexCutTo32Bits SpaceBeforeIndex
+    IdOfTheFirst CountUnwritten SeparationOfX SpareIgnored EditionOneAlone
 }
-
-pub const FAULTS: [Fault; 17] = [
-    Fault::None,
-    Fault::CountOneMore,
-    Fault::ExcessOneLess,
-    Fault::LastWordLeft,
-    Fault::ClearedThoughRefused,
-    Fault::BeyondTold,
-    Fault::BeyondQueue,
-    Fault::WrittenThoughShort,
-    Fault::WrongNumber,
-    Fault::StopsAtRefused,
-    Fault::IndexCutTo32Bits,
-    Fault::SpaceBeforeIndex,
-    Fault::IdOfTheFirst,
-    Fault::CountUnwritten,
-    Fault::SeparationOfX,
-    Fault::SpareIgnored,
-    Fault::EditionOneAlone,
-];
 
 /// The library with fault number N of the list.
 pub fn library<const N: usize>() -> Library {

@@ -6,14 +6,6 @@ use second::record::Record;
 use second::refusals::{check_record, check_to_write, Refusal};
 use std::slice::{from_raw_parts, from_raw_parts_mut};
 
-macro_rules! faults {
-    ($($name:ident)*) => {
-        #[derive(Clone, Copy, Debug, PartialEq, Eq)]
-        pub enum Fault { $($name),* }
-        pub const FAULTS: &[Fault] = &[$(Fault::$name),*];
-    };
-}
-
 faults! {
     None
     ByteBeyond ByteBefore WrittenThoughShort SpaceOneByteLate SpaceOneByteEarly PlaceAndSizeWrap

@@ -1,9 +1,8 @@
 -- `answers::answer_one` meets its contract: in each arm, what the file opened to. Assumes nothing.
-use mathlib.Core.Path.{_≡_, sym, ap, _∙_}
-use Prim.Native.Nat.{ℕ, _+_, _*_}
-use mathlib.Core.List.{List}
+use mathlib.Core.Path.{_≡_, sym, _∙_}
+use Prim.Native.Nat.{ℕ}
 use native.Mathlib.Omega.{arith}
-use Rattle.rules.specs.QueryFile.{fileForm, openRefusal, placeOf}
+use Rattle.rules.specs.QueryFile.{fileForm, openRefusal}
 use Rattle.queries.specs.Opening.{Holds, record-fits, opened-records, opened-refused}
 use Rattle.answers.specs.Doing.{refuses, answers}
 use Rattle.answers.proofs.Refusing.{one-refused, one-index, one-short, one-good}

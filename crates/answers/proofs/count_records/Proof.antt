@@ -1,10 +1,8 @@
 -- `answers::count_records` meets its contract: in each arm, what the file opened to. Assumes nothing.
-use mathlib.Core.Path.{_≡_, sym, ap, _∙_}
-use mathlib.Core.List.{List, [], _∷_}
-use Prim.Native.Nat.{ℕ}
+use mathlib.Core.Path.{_≡_, sym, _∙_}
+use mathlib.Core.List.{[]}
 use native.Mathlib.Omega.{arith}
-use lib.ListN.{length, set}
-use Rattle.rules.specs.QueryFile.{fileForm, openRefusal, put, putUnless}
+use Rattle.rules.specs.QueryFile.{fileForm, openRefusal}
 use Rattle.queries.specs.Opening.{Holds, opened-records, opened-refused}
 use Rattle.answers.proofs.Refusing.{count-refused, count-short, count-good, refuses-count, counts}
 use borrow.Author.Needs.{needs}

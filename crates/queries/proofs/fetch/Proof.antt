@@ -1,10 +1,7 @@
 -- `queries::fetch` meets its contract: in each arm, what the file opened to. Assumes nothing.
-use Prim.Native.Nat.{ℕ, _+_, _*_, _≤_, _<_}
-use mathlib.Core.Path.{_≡_, sym, ap, _∙_}
+use mathlib.Core.Path.{_≡_, sym, _∙_}
 use native.Mathlib.Omega.{arith}
-use lib.ListN.{length}
-use Rattle.rules.specs.declared.Record.{Record}
-use Rattle.rules.specs.QueryFile.{isWide, recordSize, recordAt, editionOf, fileForm, openRefusal, fetchUnless, fetched}
+use Rattle.rules.specs.QueryFile.{fileForm, openRefusal, fetchUnless, fetched}
 use Rattle.queries.specs.Opening.{Holds, opened-records, opened-refused, record-fits, reach-refused, reach-index, reach-good, refused-fetch}
 use borrow.Author.Needs.{needs}
 use Rattle.queries.proofs.fetch.Statement.{statement}

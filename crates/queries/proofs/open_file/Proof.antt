@@ -1,5 +1,4 @@
 -- `queries::open_file` meets its contract: by the edition that its trailer names. Assumes nothing.
-use Prim.Native.Nat.{ℕ}
 use mathlib.Core.Path.{ap, _∙_}
 use Rattle.rules.specs.declared.Form.{Form}
 use Rattle.rules.specs.QueryFile.{queryForm, opened}

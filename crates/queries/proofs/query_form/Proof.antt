@@ -1,5 +1,4 @@
 -- `queries::query_form` meets its contract. Assumes nothing.
-use mathlib.Core.Path.{_≡_}
 use borrow.Author.Needs.{needs}
 use Rattle.queries.proofs.query_form.Statement.{statement}
 use Rattle.queries.proofs.query_form.Tie as tie

@@ -1,5 +1,5 @@
 -- `queries::write_record` meets its contract. Assumes nothing.
-use mathlib.Core.Path.{_≡_, sym, ap, _∙_}
+use mathlib.Core.Path.{_≡_, sym, _∙_}
 use Rattle.rules.specs.QueryFile.{recordBytes, writeRefusal}
 use Rattle.queries.specs.Writing.{refused-write, done-write, write-is, write-room}
 use borrow.Author.Needs.{needs}

@@ -1,5 +1,5 @@
 -- `queries::write_trailer` meets its contract: 10 first, then as of any form. Assumes nothing.
-use mathlib.Core.Path.{_≡_, sym, _∙_}
+use mathlib.Core.Path.{sym, _∙_}
 use native.Mathlib.Omega.{arith}
 use borrow.Author.Tests.{not-true, not-false}
 use Rattle.rules.specs.QueryFile.{queryForm, trailerBytes, queryTrailerRefusal}

@@ -1,10 +1,10 @@
 -- `sweep::page` meets its contract: 15 first, then what the file opens to. Assumes nothing.
 use mathlib.Core.Path.{_≡_, sym, ap, _∙_}
-use Prim.Native.Nat.{ℕ, _+_, _*_}
+use Prim.Native.Nat.{ℕ}
 use mathlib.Core.List.{List}
 use native.Mathlib.Omega.{arith}
 use lib.ListN.{length}
-use Rattle.rules.specs.QueryFile.{fileForm, openRefusal, recordCount, placeOf, put}
+use Rattle.rules.specs.QueryFile.{fileForm, openRefusal, recordCount, put}
 use Rattle.queries.specs.Opening.{Holds, records-end, few-records, opened-records, opened-refused}
 use Rattle.text.specs.Text.{rows, fileText}
 use Rattle.answers.proofs.Walking.{tells-place}

@@ -1,10 +1,10 @@
 //! What a comparison of bodies has gone through.
 
 use crate::beside::progress::Counts;
+use crate::beside::tally::write_answers;
 use crate::bodies::{BodiesAnswer, Least};
 use std::fmt;
 
-const WORDS: [&str; 6] = ["REFUSED", "MET", "CLEAR", "SPENT", "ROOM", "FLOOR"];
 /// The highest number of a refusal.
 const MOST_NUMBER: usize = 21;
 
@@ -58,13 +58,7 @@ impl fmt::Display for Tally {
     fn fmt(&self, f: &mut fmt::Formatter) -> fmt::Result {
         let Tally { cases, differing, calls, queries, boxes, .. } = self;
         write!(f, "{cases} cases, {calls} calls, {queries} queries, {boxes} boxes;")?;
-        for (name, number) in WORDS.iter().zip(self.words) {
-            write!(f, " {name} {number}")?;
-        }
-        write!(f, "; refusals by number")?;
-        for (n, number) in self.refusals.iter().enumerate().filter(|(_, number)| **number > 0) {
-            write!(f, " {n}: {number}")?;
-        }
+        write_answers(f, &self.words, &self.refusals)?;
         write!(f, "; {differing} cases differ")
     }
 }

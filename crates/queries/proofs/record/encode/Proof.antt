@@ -1,6 +1,6 @@
 -- `queries::record::encode` meets its contract: by the edition. Assumes nothing.
-use Prim.Native.Nat.{ℕ, _+_, _≤_}
-use mathlib.Core.Path.{_≡_, sym, ap, _∙_, subst}
+use Prim.Native.Nat.{_+_, _≤_}
+use mathlib.Core.Path.{sym, ap, _∙_, subst}
 use mathlib.Core.Bool.{Bool}
 use lib.ListN.{length}
 use borrow.Author.Tests.{eq-eqb, ne-eqb}

@@ -1,6 +1,5 @@
 -- `queries::record::record_size` meets its contract. Assumes nothing.
-use mathlib.Core.Path.{_≡_, refl, sym, ap}
-use mathlib.Core.Bool.{Bool}
+use mathlib.Core.Path.{sym, ap}
 use borrow.Author.Tests.{eq-eqb, ne-eqb}
 use Rattle.rules.specs.QueryFile.{sizeBy}
 use Rattle.queries.proofs.record.record_size.Statement.{statement}
