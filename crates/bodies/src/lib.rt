@@ -19,7 +19,7 @@ use search::clear_unless;
 use search::search_accepted;
 use telling::write_told;
 
-pub mod asking; // asking.rt: one query of a triangle pair
+mod asking; // asking.rt: one query of a triangle pair
 mod hearing; // hearing.rt: what the queries come to
 mod telling; // telling.rt: an answer in eight numbers
 
