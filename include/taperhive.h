@@ -2,8 +2,9 @@
  *
  * Build: rt staticlib controller, then link target/staticlib/libcontroller.a (x86-64 Linux).
  * Every function may be called with any bytes, any numbers and any lengths; nothing is left for the caller to check first. A pointer must
- * reach as many elements as the length behind it says, and the buffers of one call must not overlap. No function allocates, keeps anything between calls, or
- * fails in any other way than by the number that it returns.
+ * reach as many elements as the length behind it says. A buffer that a call may write must overlap no other of that call; lists that are only read may be one
+ * and the same, as the two of a body that stands still. No function allocates, keeps anything between calls, or fails in any other way than by the number that
+ * it returns.
  *
  * What is told of a record are eight numbers: id, word, t, u, v, excess, count, refusal number.
  *   word    0 refused, 1 MET, 2 CLEAR, 3 SPENT, 4 ROOM, 5 FLOOR
