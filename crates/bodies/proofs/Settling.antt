@@ -1,19 +1,48 @@
 -- Refused or answered: what comes back, what is told, and what is left of the queue. Assumes nothing.
 use Prim.Native.Nat.{ℕ, zero, suc, _≤_, _<_}
 use mathlib.Core.Path.{_≡_, refl, sym, ap, _∙_}
+use mathlib.Core.Bool.{Bool, true, false, cond, _&&_}
 use mathlib.Core.List.{List, [], _∷_}
 use borrow.Author.Tests.{lt-ltb, le-ltb}
 use lib.ListN.{length, replicate}
+use Rattle.rules.specs.declared.Told.{Told}
 use Rattle.rules.specs.declared.Terms.{Terms}
 use Rattle.rules.specs.declared.BodyAnswer.{BodyAnswer}
 use Rattle.rules.specs.declared.BodyAnswer.the-variants.{Clear, Least, Refused}
+use Rattle.rules.specs.Answers.{told, hasMoment}
 use Rattle.rules.specs.Refusals.{first, orElse}
-use Rattle.rules.specs.Bodies.{Body, queriesOf, bodyRefusal, hearAll, bodyUnless, bodySearch, queueAfterBodies}
-use Rattle.triangles.specs.InOrder.{IsAnswer, hearAll-answers}
+use Rattle.rules.specs.Search.{search as searched}
+use Rattle.rules.specs.Bodies.{Body, Asked, queriesOf, bodyRefusal, counted, isLess, sumOf, heard, hearAll, bodyUnless, bodySearch, queueAfterBodies}
 use Rattle.answers.specs.Walk.{short}
 use Rattle.bodies.specs.Walk.{Heard}
 use Rattle.bodies.specs.Telling.{Answered, tellRefusal}
 use Rattle.bodies.proofs.Refusing.{or-else}
+
+-- what is heard is no refusal
+abbrev IsAnswer : BodyAnswer → Type 0
+IsAnswer (Clear sum) = Unit {0}
+IsAnswer (Least t i j query word excess sum) = Unit {0}
+IsAnswer (Refused number) = ⊥
+
+heard-answers : (sofar : BodyAnswer) (q : Asked) (r : Told) → IsAnswer sofar → IsAnswer (heard sofar q r)
+unfolding heard counted
+heard-answers sofar q r h =
+    counted-answers (r .count) (cond (hasMoment r && isLess (r .t) sofar) (Least (r .t) (q .a) (q .b) (q .query) (r .word) (r .excess) (sumOf sofar)) sofar)
+    (by (hasMoment r && isLess (r .t) sofar))
+  where
+    counted-answers : (n : ℕ) (x : BodyAnswer) → IsAnswer x → IsAnswer (counted n x)
+    counted-answers n (Clear sum) h = tt
+    counted-answers n (Least t i j query word excess sum) h = tt
+    counted-answers n (Refused number) h = h
+
+    by : (t : Bool) → IsAnswer (cond t (Least (r .t) (q .a) (q .b) (q .query) (r .word) (r .excess) (sumOf sofar)) sofar)
+    by true = tt
+    by false = h
+
+hearAll-answers : (words : ℕ) (sofar : BodyAnswer) (qs : List Asked) → IsAnswer sofar → IsAnswer (hearAll words sofar qs)
+unfolding hearAll
+hearAll-answers words sofar [] h = h
+hearAll-answers words sofar (q ∷ qs) h = hearAll-answers words (heard sofar q (told (searched (q .ask) words))) qs (heard-answers sofar q (told (searched (q .ask) words)) h)
 
 after-answer : (x : BodyAnswer) (queue : List ℕ) → IsAnswer x → queueAfterBodies x queue ≡ replicate (length queue) 0
 unfolding queueAfterBodies

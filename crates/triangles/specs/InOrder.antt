@@ -2,7 +2,6 @@
 --     none-refused     none refused: not one of them is
 --     hearAll-append   two lists heard one after the other
 --     accepted         two bodies that are not refused
---     hearAll-answers  what is heard is no refusal
 -- Assumes nothing.
 use Prim.Native.Nat.{ℕ, zero, suc}
 use mathlib.Core.Path.{_≡_, refl}
@@ -10,13 +9,11 @@ use mathlib.Core.Bool.{Bool, true, false, cond, _&&_}
 use mathlib.Core.List.{List, [], _∷_, _++_}
 use native.Mathlib.Omega.{arith}
 use Rattle.rules.specs.declared.Terms.{Terms}
-use Rattle.rules.specs.declared.Told.{Told}
 use Rattle.rules.specs.declared.BodyAnswer.{BodyAnswer}
-use Rattle.rules.specs.declared.BodyAnswer.the-variants.{Clear, Least, Refused}
-use Rattle.rules.specs.Answers.{told, hasMoment}
+use Rattle.rules.specs.Answers.{told}
 use Rattle.rules.specs.Refusals.{orElse, searchRefusal}
 use Rattle.rules.specs.Search.{search}
-use Rattle.rules.specs.Bodies.{Body, Asked, isBody, queriesOf, firstRefused, bodyRefusal, counted, isLess, sumOf, heard, hearAll}
+use Rattle.rules.specs.Bodies.{Body, Asked, isBody, queriesOf, firstRefused, bodyRefusal, heard, hearAll}
 use Rattle.triangles.specs.Members.{All}
 
 neither : (m n : ℕ) → orElse m n ≡ 0 → (m ≡ 0) × (n ≡ 0)
@@ -43,29 +40,3 @@ accepted w a b words e = by (isBody a && isBody b) e
     by : (t : Bool) → cond t (firstRefused words (queriesOf w a b)) 21 ≡ 0 → (t ≡ true) × (firstRefused words (queriesOf w a b) ≡ 0)
     by true e = (refl, e)
     by false e = absurd (omega arith)
-
--- what is heard is no refusal
-abbrev pub IsAnswer : BodyAnswer → Type 0
-IsAnswer (Clear sum) = Unit {0}
-IsAnswer (Least t i j query word excess sum) = Unit {0}
-IsAnswer (Refused number) = ⊥
-
-heard-answers : (sofar : BodyAnswer) (q : Asked) (r : Told) → IsAnswer sofar → IsAnswer (heard sofar q r)
-unfolding heard counted
-heard-answers sofar q r h =
-    counted-answers (r .count) (cond (hasMoment r && isLess (r .t) sofar) (Least (r .t) (q .a) (q .b) (q .query) (r .word) (r .excess) (sumOf sofar)) sofar)
-    (by (hasMoment r && isLess (r .t) sofar))
-  where
-    counted-answers : (n : ℕ) (x : BodyAnswer) → IsAnswer x → IsAnswer (counted n x)
-    counted-answers n (Clear sum) h = tt
-    counted-answers n (Least t i j query word excess sum) h = tt
-    counted-answers n (Refused number) h = h
-
-    by : (t : Bool) → IsAnswer (cond t (Least (r .t) (q .a) (q .b) (q .query) (r .word) (r .excess) (sumOf sofar)) sofar)
-    by true = tt
-    by false = h
-
-pub hearAll-answers : (words : ℕ) (sofar : BodyAnswer) (qs : List Asked) → IsAnswer sofar → IsAnswer (hearAll words sofar qs)
-unfolding hearAll
-hearAll-answers words sofar [] h = h
-hearAll-answers words sofar (q ∷ qs) h = hearAll-answers words (heard sofar q (told (search (q .ask) words))) qs (heard-answers sofar q (told (search (q .ask) words)) h)
