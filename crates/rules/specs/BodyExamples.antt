@@ -1,4 +1,4 @@
--- Document 02, R-6: worked examples of the written rules, with the face T of document 01's berth as both triangles.
+-- Document 02, R-6: worked examples of the written rules, over the face T of document 01's berth and two triangles more.
 use Prim.Native.Nat.{ℕ}
 use mathlib.Core.Path.{_≡_, refl}
 use mathlib.Core.List.{List, [], _∷_, _++_, map}

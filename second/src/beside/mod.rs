@@ -68,16 +68,8 @@ impl Case {
 }
 
 impl Again for Case {
-    fn seed(&self) -> u64 {
-        self.seed
-    }
-
-    fn flavour(&self) -> &'static str {
-        self.flavour
-    }
-
-    fn words(&self) -> &[usize] {
-        &self.words
+    fn drawn_by(&self) -> (u64, &'static str, &[usize]) {
+        (self.seed, self.flavour, &self.words)
     }
 
     fn contents(&self) -> (&'static str, Vec<u8>) {

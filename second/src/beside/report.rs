@@ -8,17 +8,15 @@ const KEPT: usize = 20;
 
 /// A case that a seed and a flavour make again.
 pub trait Again {
-    fn seed(&self) -> u64;
-    fn flavour(&self) -> &'static str;
-    /// The queue lengths tried on it.
-    fn words(&self) -> &[usize];
+    /// Its seed and flavour, and the queue lengths tried on it.
+    fn drawn_by(&self) -> (u64, &'static str, &[usize]);
     /// What is kept of it, and the ending of that file's name.
     fn contents(&self) -> (&'static str, Vec<u8>);
 }
 
 /// Prints the differences of a case, and keeps them beside the file that shows them.
 pub fn keep(folder: &Path, case: &impl Again, differences: &[String]) -> std::io::Result<()> {
-    let (seed, flavour, words) = (case.seed(), case.flavour(), case.words());
+    let (seed, flavour, words) = case.drawn_by();
     let name = format!("compare-{seed}-{flavour}");
     let lines = &differences[..differences.len().min(KEPT)];
     let again = format!("again: tools/compare --only {seed} {flavour}");

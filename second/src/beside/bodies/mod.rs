@@ -36,16 +36,8 @@ impl Case {
 }
 
 impl Again for Case {
-    fn seed(&self) -> u64 {
-        self.seed
-    }
-
-    fn flavour(&self) -> &'static str {
-        self.flavour
-    }
-
-    fn words(&self) -> &[usize] {
-        &self.words
+    fn drawn_by(&self) -> (u64, &'static str, &[usize]) {
+        (self.seed, self.flavour, &self.words)
     }
 
     /// Every number, a line each for what all queries share and for the four lists.
