@@ -39,7 +39,7 @@ impl<T: Counts> Progress<T> {
             let (seed, flavour) = (self.seed(), self.flavours[self.next % self.flavours.len()]);
             self.next += 1;
             let seldom = SELDOM.iter().find(|(name, _)| flavour.starts_with(name));
-            if seldom.is_none_or(|(_, every)| (seed - self.first).is_multiple_of(*every)) {
+            if seldom.is_none_or(|(_, every)| (seed - self.first) % every == 0) {
                 return (seed, flavour);
             }
         }

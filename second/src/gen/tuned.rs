@@ -75,7 +75,7 @@ pub fn peak(record: &Record) -> usize {
 /// Around the half of 4,096 words, just enough or just too much for it.
 fn heavy(rng: &mut Dice) -> Record {
     let wanted = rng.pick(&[(1900, 2048), (2049, 2300)]);
-    let family = rng.pick(&[|rng: &mut Dice| brick(rng, 5000), parallel]);
+    let family: fn(&mut Dice) -> Record = rng.pick(&[|rng| brick(rng, 5000), parallel]);
     let mut record = family(rng);
     for _ in 0..6 {
         if (wanted.0..=wanted.1).contains(&peak(&record)) {
