@@ -4,4 +4,5 @@ pub mod OnePass
 pub mod Coordinates
 pub mod Check
 pub mod Walk
+pub mod Apart
 pub mod Telling

@@ -50,7 +50,7 @@ fn sum_of(sofar: BodyAnswer) -> u64
     }
 }
 
-fn counted(n: u64, sofar: BodyAnswer) -> BodyAnswer
+pub fn counted(n: u64, sofar: BodyAnswer) -> BodyAnswer
     requires { ⌜ sumOf sofar + n ≤ 18446744073709551615 ⌝ }
     ensures { λ r. ⌜ r ≡ counted n sofar ⌝ }
 {

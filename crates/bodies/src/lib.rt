@@ -9,7 +9,9 @@ ghost use Rattle.bodies.specs.Asking.{body};
 ghost use Rattle.bodies.specs.Telling.{Answered, Tells};
 ghost use Rattle.bodies.specs.Walk.{positions, OfQuery, OfPair, OfRow, OfBodies, Heard, queryAlone, rowQueries};
 use answers::numbers;
+use apart::are_distant;
 use asking::query_at;
+use hearing::counted;
 use hearing::heard;
 use refusals::is_coordinate;
 use refusals::search_refusal;
@@ -19,6 +21,7 @@ use search::clear_unless;
 use search::search_accepted;
 use telling::write_told;
 
+mod apart; // apart.rt: two triangles whose queries all miss
 mod asking; // asking.rt: one query of a triangle pair
 mod hearing; // hearing.rt: what the queries come to
 mod telling; // telling.rt: an answer in eight numbers
@@ -109,6 +112,9 @@ fn hear_pair(
     requires { ⌜ OfPair w (now a0) (now a1) (now b0) (now b1) i j (now queue) first ⌝ }
     ensures { λ r. ⌜ Heard 15 (pairQueries w (positions (now (a0 .entry)) (now (a1 .entry))) (positions (now (b0 .entry)) (now (b1 .entry))) i j) (now (queue .entry)) (now (queue .exit)) first r ⌝ }
 {
+    if are_distant(w, a0, a1, b0, b1, i, j, queue, first) {
+        return counted(15, first);
+    }
     let mut sofar = first;
     let mut k = 0;
     while k < 15 {

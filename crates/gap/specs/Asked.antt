@@ -18,6 +18,17 @@ and-assoc : (a b c : Bool) → (a && b && c) ≡ (a && (b && c))
 and-assoc true b c = refl
 and-assoc false b c = refl
 
+-- z first, then x, then y
+height-first : (x y z : Bool) → (z && (x && y)) ≡ (x && y && z)
+height-first true true true = refl
+height-first true true false = refl
+height-first true false true = refl
+height-first true false false = refl
+height-first false true true = refl
+height-first false true false = refl
+height-first false false true = refl
+height-first false false false = refl
+
 leb-max : (x y n : ℕ) → (leb x n && leb y n) ≡ leb (max x y) n
 leb-max x y n = go (leb x n) (leb y n) refl refl
   where
@@ -42,6 +53,9 @@ module _ (p : Pair) (k i : Three) where
   pub survives-is : onAll (λ axis. meets (onAxis p axis) (cellOf k i) (apartOn p axis)) ≡ survives (asked p) k i
   unfolding meets over minZ maxZ survives least greatest overCorners
   survives-is = refl
+
+  pub by-height : (meets (p .z) (cellOf k i) (p .dz) && (meets (p .x) (cellOf k i) (p .dx) && meets (p .y) (cellOf k i) (p .dy))) ≡ survives (asked p) k i
+  by-height = height-first (meets (p .x) (cellOf k i) (p .dx)) (meets (p .y) (cellOf k i) (p .dy)) (meets (p .z) (cellOf k i) (p .dz)) ∙ survives-is
 
   pub excess-is : excessOf p (cellOf k i) ≡ excess (asked p) k i
   unfolding excessOf excess

@@ -15,9 +15,9 @@ use Rattle.kernel.specs.declared.Kernel.{Kernel}
 use Rattle.kernel.specs.Ranges.{Small}
 use Rattle.gap.specs.declared.cell.Cell.{Cell}
 use Rattle.gap.specs.declared.span.Moment.{Moment}
-use Rattle.gap.specs.Corners.{value, valueAt, over, beyond, isNarrow}
+use Rattle.gap.specs.Corners.{value, valueAt, spanAt, over, beyond, isNarrow}
 use Rattle.gap.specs.Affine.{value-at}
-use Rattle.gap.specs.Steps.{InParts, SmallMoment, moment-small, term-within, blendMost, termMost}
+use Rattle.gap.specs.Steps.{InParts, SmallMoment, SmallSpan, moment-small, term-within, span-small, blendMost, termMost}
 
 abbrev pub gapMost : ℕ
 gapMost = 6_917_529_027_641_081_856
@@ -47,6 +47,14 @@ module _ {m : Moment} {u v : ℕ} (s : SmallMoment blendMost m) (hu : u ≤ part
         ab = fits tt (within-add first (term-within hu (s .b)));
         abc = fits tt at-within;
       }
+
+-- over a cell at a moment
+pub span-within : {m : Moment} {w : Cell} → SmallMoment blendMost m → InParts w → SmallSpan gapMost (spanAt m w)
+span-within s h =
+    let u = span-small (term-within (h .u0) (s .b)) (term-within (h .u1) (s .b)) in
+    let v = span-small (term-within (h .v0) (s .c)) (term-within (h .v1) (s .c)) in
+    let a = within-mul (within-pos parts) (s .a) in
+    record { least = within-add (within-add a (u .least)) (v .least); greatest = within-add (within-add a (u .greatest)) (v .greatest) }
 
 -- ---- at a corner
 

@@ -3,13 +3,14 @@ use mathlib.Core.Path.{_≡_, sym, ap, ap₂, _∙_}
 use mathlib.Core.Bool.{_&&_}
 use mathlib.Core.List.{[], _∷_}
 use Prim.Native.Nat.{ℕ, _<_}
-use lib.Dec.{lit<}
+use lib.Dec.{lit<, lit≤}
 use lib.IntN.{ℤ, pos, negℤ, _+ℤ_, _*ℤ_, zero-*ℤ}
 use lib.Signed.{leZ}
 use Rattle.whole.specs.Defs.{minZ, maxZ}
 use Rattle.whole.specs.Laws.{neg-mul}
-use Rattle.whole.specs.Order.{min-add, max-add, scale-test, min-scale, max-scale}
+use Rattle.whole.specs.Order.{min-add, max-add, min-pick, max-pick, scale-test, min-scale, max-scale}
 use Rattle.whole.specs.Ring.{var, num, _:+_, _:*_, _:-_, ring}
+use Rattle.whole.specs.Within.{Within, within-add, within-more, within-pos}
 use Rattle.rules.specs.Numbers.{parts}
 use Rattle.rules.specs.Search.{unit, origin}
 use Rattle.kernel.specs.declared.Kernel.{Kernel}
@@ -17,7 +18,9 @@ use Rattle.gap.specs.declared.cell.Cell.{Cell}
 use Rattle.gap.specs.declared.span.Moment.{Moment}
 use Rattle.gap.specs.declared.span.Span.{Span}
 use Rattle.gap.specs.Corners.{cellOf, blended, momentOf, over, meets, spanOf, summed, joined}
+use Rattle.kernel.specs.Ranges.{Small}
 use Rattle.gap.specs.Affine.{over-at}
+use Rattle.gap.specs.Steps.{SmallSpan, span-small}
 
 abbrev pub wholeCube : Cell
 wholeCube = cellOf origin origin
@@ -28,6 +31,19 @@ squareOf a b c = summed a (spanOf (pos 0) b) (spanOf (pos 0) c)
 
 abbrev pub cubeOf : Kernel → Span
 cubeOf K = joined (squareOf (K .a0) (K .b0) (K .c0)) (squareOf (K .a1) (K .b1) (K .c1))
+
+-- it is small where the kernel is
+pub cube-within : {K : Kernel} → Small K → SmallSpan 6_291_456 (cubeOf K)
+cube-within h =
+    let s = square (h .a0) (h .b0) (h .c0) in
+    let e = square (h .a1) (h .b1) (h .c1) in
+    record { least = min-pick (Within 6_291_456) _ _ (s .least) (e .least); greatest = max-pick (Within 6_291_456) _ _ (s .greatest) (e .greatest) }
+  where
+    term : {x : ℤ} → Within 2_097_152 x → SmallSpan 2_097_152 (spanOf (pos 0) x)
+    term h = span-small (within-more (lit≤ tt) (within-pos 0)) h
+
+    square : {a b c : ℤ} → Within 2_097_152 a → Within 2_097_152 b → Within 2_097_152 c → SmallSpan 6_291_456 (squareOf a b c)
+    square f g h = record { least = within-add (within-add f (term g .least)) (term h .least); greatest = within-add (within-add f (term g .greatest)) (term h .greatest) }
 
 above : 0 < unit
 above = lit< tt

@@ -1,6 +1,6 @@
 -- A pair that asks of the written search what a record asks, and that is in range.
-use mathlib.Core.Path.{_≡_, refl, sym, ap, _∙_}
-use mathlib.Core.Bool.{Bool, _&&_}
+use mathlib.Core.Path.{_≡_, refl, sym, ap, ap₂, _∙_}
+use mathlib.Core.Bool.{Bool, true, false, _&&_}
 use Prim.Native.Nat.{ℕ, _%_}
 use native.Mathlib.Omega.{arith}
 use lib.Dec.{eqb}
@@ -9,13 +9,16 @@ use Rattle.rules.specs.declared.Record.{Record}
 use Rattle.rules.specs.Numbers.{deepest, half}
 use Rattle.rules.specs.Gap.{Axis, X, Y, Z, place, gapOn, isVertexFace, sided, separationOn}
 use Rattle.rules.specs.Refusals.{searchRefusal}
-use Rattle.rules.specs.Search.{query}
+use Rattle.rules.specs.Search.{Query, query, origin, survives}
 use Rattle.kernel.specs.declared.Kernel.{Kernel}
 use Rattle.kernel.specs.declared.Pair.{Pair}
 use Rattle.kernel.specs.Kernel.{kern, kernelOf, asked, onAxis, apartOn}
 use Rattle.kernel.specs.Same.{gap-kernel}
 use Rattle.kernel.specs.Ranges.{Ranged}
 use Rattle.refusals.specs.Accepted.{accepted-search}
+use Rattle.gap.specs.Corners.{meets}
+use Rattle.gap.specs.Cube.{wholeCube}
+use Rattle.gap.specs.Asked.{by-height}
 use Rattle.gap.specs.Points.{Coordinates, kernelAt, kernel-at-is, kernel-small, isY}
 
 pub record Prepared (r : Record) (words : ℕ) (p : Pair) : Type 0 where
@@ -96,3 +99,38 @@ module _ (r : Record) (words : ℕ) where
               room = omega (arith, h .words-most);
             };
       }
+
+-- ---- the whole cube, axis by axis as they are reached
+
+module _ (r : Record) (words : ℕ) where
+  abbrev at : Axis → ℕ → Bool
+  at axis d = meets (axisOf r axis) wholeCube d
+
+  whole : (at Z (r .dz) && (at X (r .dx) && at Y (r .dy))) ≡ survives (query r words) origin origin
+  whole = by-height (pairOf r words) origin origin ∙ ap (λ (q : Query). survives q origin origin) (pair-asks r words)
+
+  module _ {z : Bool} (a : z ≡ at Z (r .dz)) where
+    pub misses-z : z ≡ false → false ≡ survives (query r words) origin origin
+    misses-z e = sym (ap₂ _&&_ (sym a ∙ e) (refl {a = at X (r .dx) && at Y (r .dy)})) ∙ whole
+
+    module _ {x : Bool} (e : z ≡ true) (b : x ≡ at X (r .dx)) where
+      pub misses-x : x ≡ false → false ≡ survives (query r words) origin origin
+      misses-x f = sym (ap₂ _&&_ (sym a ∙ e) (ap₂ _&&_ (sym b ∙ f) (refl {a = at Y (r .dy)}))) ∙ whole
+
+      pub goes-by-y : {y : Bool} → x ≡ true → y ≡ at Y (r .dy) → y ≡ survives (query r words) origin origin
+      goes-by-y f d = d ∙ sym (ap₂ _&&_ (sym a ∙ e) (ap₂ _&&_ (sym b ∙ f) (refl {a = at Y (r .dy)}))) ∙ whole
+
+  -- an axis that misses, whichever it is
+  pub misses-any : (axis : Axis) → at axis (separationOn r axis) ≡ false → survives (query r words) origin origin ≡ false
+  misses-any Z e = sym whole ∙ ap (λ (b : Bool). b && (at X (r .dx) && at Y (r .dy))) e
+  misses-any X e = sym whole ∙ ap (λ (b : Bool). at Z (r .dz) && (b && at Y (r .dy))) e ∙ none (at Z (r .dz))
+    where
+      none : (b : Bool) → (b && false) ≡ false
+      none true = refl
+      none false = refl
+  misses-any Y e = sym whole ∙ ap (λ (b : Bool). at Z (r .dz) && (at X (r .dx) && b)) e ∙ none (at Z (r .dz)) (at X (r .dx))
+    where
+      none : (b c : Bool) → (b && (c && false)) ≡ false
+      none true true = refl
+      none true false = refl
+      none false c = refl

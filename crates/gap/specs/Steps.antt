@@ -1,6 +1,7 @@
 -- That no step of the corner calculation leaves an `i64`: what each is within. Coordinates are within 2^20, so that the six numbers
 -- of an axis are within 2^21, a blend within 2^41, and F within 3·2^61.
 use mathlib.Core.Path.{_≡_}
+use mathlib.Core.List.{[], _∷_}
 use Prim.Native.Nat.{ℕ, _+_, _-_, _*_, _≤_}
 use native.Mathlib.Omega.{arith}
 use lib.IntN.{ℤ, pos, negsuc, natAbs, _+ℤ_, _-ℤ_, _*ℤ_}
@@ -9,7 +10,8 @@ use mir.Val.{SFits, toZ}
 use Rattle.whole.specs.Read.{cast-back}
 use Rattle.whole.specs.View.{up, dn, minus-view}
 use Rattle.whole.specs.Order.{min-pick, max-pick}
-use Rattle.whole.specs.Within.{Within, within-add, within-mul, within-pos, within-more, fits}
+use Rattle.whole.specs.Ring.{var, _:+_, _:*_, _:-_, ring}
+use Rattle.whole.specs.Within.{Within, within-add, within-sub, within-mul, within-pos, within-more, fits}
 use Rattle.rules.specs.declared.Three.{Three}
 use Rattle.rules.specs.Numbers.{parts}
 use Rattle.rules.specs.Search.{unit}
@@ -54,10 +56,15 @@ pub record SmallSpan (M : ℕ) (s : Span) : Type 0 where
 -- ---- one number between its two ends
 
 pub record Blends (t x y : ℤ) : Type 0 where
-  pub rest : SFits w64 (pos parts -ℤ t)
-  pub from : SFits w64 ((pos parts -ℤ t) *ℤ x)
-  pub to : SFits w64 (t *ℤ y)
-  pub sum : SFits w64 ((pos parts -ℤ t) *ℤ x +ℤ t *ℤ y)
+  pub whole : SFits w64 (pos parts *ℤ x)
+  pub change : SFits w64 (y -ℤ x)
+  pub part : SFits w64 (t *ℤ (y -ℤ x))
+  pub sum : SFits w64 (pos parts *ℤ x +ℤ t *ℤ (y -ℤ x))
+  pub is : pos parts *ℤ x +ℤ t *ℤ (y -ℤ x) ≡ blended t x y
+
+-- one product in place of two
+blend-is : (t x y : ℤ) → pos parts *ℤ x +ℤ t *ℤ (y -ℤ x) ≡ blended t x y
+blend-is t x y = ring (pos parts ∷ t ∷ x ∷ y ∷ []) (var 0 :* var 2 :+ var 1 :* (var 3 :- var 2)) ((var 0 :- var 1) :* var 2 :+ var 1 :* var 3) tt
 
 rest-within : {t : ℕ} → t ≤ parts → Within (parts - t) (pos parts -ℤ pos t)
 rest-within {t} h = record { most = small (pos parts -ℤ pos t) (minus-view (pos parts) (pos t)) }
@@ -76,10 +83,11 @@ module _ {t : ℕ} {x y : ℤ} (ht : t ≤ parts) (hx : Within 2_097_152 x) (hy 
   pub blends : Blends (pos t) x y
   blends =
       record {
-        rest = fits {M = parts} tt (within-more (omega arith) (rest-within ht));
-        from = fits {M = blendMost} tt (within-more (omega arith) (within-mul (rest-within ht) hx));
-        to = fits tt (within-mul (in-parts ht) hy);
-        sum = fits tt blend-within;
+        whole = fits tt (within-mul (within-pos parts) hx);
+        change = fits tt (within-sub hy hx);
+        part = fits tt (within-mul (in-parts ht) (within-sub hy hx));
+        sum = fits tt (within-add (within-mul (within-pos parts) hx) (within-mul (in-parts ht) (within-sub hy hx)));
+        is = blend-is (pos t) x y;
       }
 
 pub moment-small : {K : Kernel} {t : ℕ} → Small K → t ≤ parts → SmallMoment blendMost (momentOf K t)

@@ -1,7 +1,7 @@
 // Everything that the search asks about one box of a pair.
 ghost use mathlib.Core.Path.{_≡_};
 ghost use Rattle.rules.specs.Refusals.{searchRefusal};
-ghost use Rattle.rules.specs.Search.{origin, survives, inside, corner, near, split};
+ghost use Rattle.rules.specs.Search.{query, origin, survives, inside, corner, near, split};
 ghost use Rattle.kernel.specs.Kernel.{asked};
 ghost use Rattle.kernel.specs.Ranges.{Ranged, Shallow, InGrid};
 ghost use Rattle.gap.specs.Prepared.{Prepared};
@@ -25,21 +25,22 @@ use weigh::weight;
 use weigh::winner;
 
 mod cell; // cell.rt: a box as its ends in parts
-mod cube; // cube.rt: the least and the greatest of F over the whole cube, on one axis
+pub mod cube; // cube.rt: the least and the greatest of F over the whole cube, on one axis
 mod measure; // measure.rt: what F at the corners says: survival, excess, width
 mod points; // points.rt: the kernel of an axis, from the coordinates of the eight points
-mod span; // span.rt: the least and the greatest of F over a cell's corners, on one axis
+pub mod slab; // slab.rt: what all boxes of a t index share
+pub mod span; // span.rt: the least and the greatest of F over a cell's corners, on one axis
 mod weigh; // weigh.rt: what a split in each parameter is worth
 
-// Whether the box survives.
+// Whether the box survives: z first, then x, then y, and the first axis that misses ends it.
 pub fn survives(p: Pair, k: Three, i: Three) -> bool
     requires { ⌜ Ranged p × (Shallow k × InGrid k i) ⌝ }
     ensures { λ r. ⌜ r ≡ survives (asked p) k i ⌝ }
 {
     let w = cell_of(k, i);
-    if meets(p.x, w, p.dx) {
-        if meets(p.y, w, p.dy) {
-            meets(p.z, w, p.dz)
+    if meets(p.z, w, p.dz) {
+        if meets(p.x, w, p.dx) {
+            meets(p.y, w, p.dy)
         } else {
             false
         }
@@ -48,14 +49,17 @@ pub fn survives(p: Pair, k: Three, i: Three) -> bool
     }
 }
 
-// Whether the whole cube survives: level 0 has no other box.
-pub fn survives_whole(p: Pair) -> bool
-    requires { ⌜ Ranged p ⌝ }
-    ensures { λ r. ⌜ r ≡ survives (asked p) origin origin ⌝ }
+// Whether the whole cube of a record that is not refused survives: level 0 has no other box. Only the axes that are reached are worked out.
+pub fn survives_whole(r: Record, words: usize) -> bool
+    requires { ⌜ searchRefusal r words ≡ 0 ⌝ }
+    ensures { λ b. ⌜ b ≡ survives (query r words) origin origin ⌝ }
 {
-    if meets_whole(p.x, p.dx) {
-        if meets_whole(p.y, p.dy) {
-            meets_whole(p.z, p.dz)
+    let points = r.points;
+    let face = r.kind == 1;
+    let flagged = r.flags % 2 == 1;
+    if meets_whole(kernel_at(points, 2, false, face), r.dz as u64) {
+        if meets_whole(kernel_at(points, 0, false, face), r.dx as u64) {
+            meets_whole(kernel_at(points, 1, flagged, face), r.dy as u64)
         } else {
             false
         }

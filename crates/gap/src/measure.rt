@@ -21,10 +21,10 @@ use whole::larger;
 use whole::size;
 
 // A unit of F times parts·parts.
-const UNIT: u64 = 1099511627776;
+pub const UNIT: u64 = 1099511627776;
 
 // Whether a span comes within the limit of 0.
-fn comes_within(s: Span, limit: i64) -> bool
+pub fn comes_within(s: Span, limit: i64) -> bool
     requires { ⌜ Within termMost limit ⌝ }
     ensures { λ r. ⌜ r ≡ leZ (s .least) limit && leZ (negℤ limit) (s .greatest) ⌝ }
 {

@@ -30,7 +30,7 @@ fn blend(t: i64, x: i64, y: i64) -> i64
     requires { ⌜ Blends t x y ⌝ }
     ensures { λ r. ⌜ r ≡ blended t x y ⌝ }
 {
-    (PARTS - t) * x + t * y
+    PARTS * x + t * (y - x)
 }
 
 pub fn at_moment(k: Kernel, t: u64) -> Moment
@@ -73,7 +73,7 @@ pub fn sum(x: i64, s: Span, t: Span) -> Span
 }
 
 // The span over u and v at a moment, term by term.
-fn over_face(m: Moment, w: Cell) -> Span
+pub fn over_face(m: Moment, w: Cell) -> Span
     requires { ⌜ SmallMoment blendMost m × InParts w ⌝ }
     ensures { λ r. ⌜ r ≡ spanAt m w ⌝ }
 {

@@ -56,10 +56,7 @@ module _ (q : Query) (k : Depths) (p : Parameter) (n h : ℕ) (old : List ℕ) (
       beyond = w .beyond;
     }
 
-    module _ (r : Pick) (x : Picked q k p (take n new) i j r) where
-      picked : Picked q k p (take n old) i j r
-      picked = rw same-part at x
-
+    module _ (r : Pick) (picked : Picked q k p (take n old) i j r) where
       next : (b : Bool) → r .stays ≡ b → map boxOf (take m (drop h new)) ++ cond b (boxOf (r .word) ∷ halvesFrom q k p (take n old) (r .i) (r .j)) (halvesFrom q k p (take n old) (r .i) (r .j)) ≡ whole
       next b e = rw (← e) (rw (picked .halves) at (w .done))
 
@@ -85,7 +82,7 @@ module _ (q : Query) (k : Depths) (p : Parameter) (n h : ℕ) (old : List ℕ) (
             len = length-set new (h + m) (r .word) ∙ w .len;
             source = take-set-le h new (h + m) (r .word) (omega arith) ∙ w .source;
             beyond = rw (← add-assoc h m 1) (drop-set-lt (h + m + 1) new (h + m) (r .word) (omega arith) ∙ same-after (h + m) new old (w .beyond));
-            grid = rw (drop-set-add h new m (r .word), add-one m, take-suc-set (drop h new) m (r .word) long) (all-snoc (OfLevel k) (take m (drop h new)) (r .word) (w .grid) (x .of-level));
+            grid = rw (drop-set-add h new m (r .word), add-one m, take-suc-set (drop h new) m (r .word) long) (all-snoc (OfLevel k) (take m (drop h new)) (r .word) (w .grid) (picked .of-level));
             done = rw (drop-set-add h new m (r .word)) (put m (drop h new) (r .word) _ long ∙ next true e);
           }
 
@@ -96,7 +93,7 @@ module _ (q : Query) (k : Depths) (p : Parameter) (n h : ℕ) (old : List ℕ) (
     pub all-placed : n + n ≤ i + j → NextIs h k whole old new (Level m)
     all-placed past = record {
       fits = w .room;
-      placed = sym (append-nil (map boxOf (take m (drop h new)))) ∙ rw (none-left q k p old n (omega arith) i j (omega (arith, w .i-le, w .j-le)) (omega (arith, w .i-le, w .j-le))) at (w .done);
+      placed = sym (append-nil (map boxOf (take m (drop h new)))) ∙ rw (none-left q k p (take n old) i j (omega (arith, short, w .i-le, w .j-le)) (omega (arith, short, w .i-le, w .j-le))) at (w .done);
       grid = w .grid;
       beyond = w .beyond;
     }

@@ -3,13 +3,12 @@ use mathlib.Core.Path.{_≡_}
 use mathlib.Core.Bool.{Bool, true, false, cond}
 use mathlib.Core.List.{List, [], _∷_}
 use Prim.Native.Nat.{ℕ, _+_, _≤_, _<_}
-use lib.ListN.{length, getD, take, drop, drop-of-length-le}
-use lib.Seq.{length-take-le}
+use native.Mathlib.Numerals.{add-one}
+use lib.ListN.{length, getD, drop, drop-of-length-le}
+use lib.Seq.{drop-cons}
 use Rattle.rules.specs.declared.Parameter.{Parameter}
-use Rattle.rules.specs.Search.{Query, Box, Depths, lowHalf, highHalf, inside, those, merge, takeIn, notAfter}
-use Rattle.boxes.specs.Boxes.{boxOf}
-use Rattle.queue.specs.Level.{halvesFrom}
-use Rattle.queue.specs.Walk.{part-cons}
+use Rattle.rules.specs.Search.{Query, Box, Depths, inside, those, merge, takeIn, notAfter}
+use Rattle.queue.specs.Level.{halvesFrom, lowAt, highAt}
 
 -- ---- of two lists of boxes, those that are such as one
 
@@ -41,41 +40,38 @@ module _ (f : Box → Bool) (x y : Box) (xs ys : List Box) where
   unfolding those merge takeIn
   high-first d e o = rw (d, e, o)
 
--- ---- of the first n words of a queue
+-- ---- of the words of a level
 
-module _ (q : Query) (k : Depths) (p : Parameter) (queue : List ℕ) (n : ℕ) (fits : n ≤ length queue) where
+module _ (q : Query) (k : Depths) (p : Parameter) (ws : List ℕ) where
   abbrev from : ℕ → ℕ → List Box
-  from i j = halvesFrom q k p (take n queue) i j
+  from i j = halvesFrom q k p ws i j
 
-  abbrev low : ℕ → Box
-  low i = lowHalf p (boxOf (getD queue i 0))
+  opened : (i : ℕ) → i < length ws → drop i ws ≡ getD ws i 0 ∷ drop (i + 1) ws
+  opened i h = rw (add-one) (drop-cons ws i 0 h)
 
-  abbrev high : ℕ → Box
-  high j = highHalf p (boxOf (getD queue j 0))
+  ended : (i : ℕ) → length ws ≤ i → drop i ws ≡ []
+  ended i h = drop-of-length-le ws {i = i} h
 
-  past : (i : ℕ) → n ≤ i → drop i (take n queue) ≡ []
-  past i h = drop-of-length-le (take n queue) {i = i} (rw (length-take-le n queue fits) h)
-
-  pub none-left : (i j : ℕ) → n ≤ i → n ≤ j → from i j ≡ []
+  pub none-left : (i j : ℕ) → length ws ≤ i → length ws ≤ j → from i j ≡ []
   unfolding those merge
-  none-left i j hi hj = rw (past i hi, past j hj)
+  none-left i j hi hj = rw (ended i hi, ended j hj)
 
   module _ (i j : ℕ) where
-    pub step-last-high : (b : Bool) → n ≤ i → j < n → inside q k (high j) ≡ b → from i j ≡ cond b (high j ∷ from i (j + 1)) (from i (j + 1))
-    step-last-high b hi hj e = rw (past i hi, part-cons j n queue hj fits) (only-high (inside q k) (high j) (high j) [] _ b e)
+    pub step-last-high : length ws ≤ i → j < length ws → inside q k (highAt p ws j) ≡ true → from i j ≡ highAt p ws j ∷ from i (j + 1)
+    step-last-high hi hj e = rw (ended i hi, opened j hj) (only-high (inside q k) (highAt p ws j) (highAt p ws j) [] _ true e)
 
-    pub step-pass-low : i < n → inside q k (low i) ≡ false → from i j ≡ from (i + 1) j
-    step-pass-low hi e = rw (part-cons i n queue hi fits) (pass-low (inside q k) (low i) (low i) _ _ e)
+    pub step-pass-low : i < length ws → inside q k (lowAt p ws i) ≡ false → from i j ≡ from (i + 1) j
+    step-pass-low hi e = rw (opened i hi) (pass-low (inside q k) (lowAt p ws i) (lowAt p ws i) _ _ e)
 
-    pub step-last-low : i < n → n ≤ j → inside q k (low i) ≡ true → from i j ≡ low i ∷ from (i + 1) j
-    step-last-low hi hj e = rw (past j hj, part-cons i n queue hi fits) (only-low (inside q k) (low i) (low i) _ [] e)
+    pub step-pass-high : j < length ws → inside q k (highAt p ws j) ≡ false → from i j ≡ from i (j + 1)
+    step-pass-high hj e = rw (opened j hj) (pass-high (inside q k) (highAt p ws j) (highAt p ws j) _ _ e)
 
-    module _ (hi : i < n) (hj : j < n) where
-      pub step-pass-high : inside q k (high j) ≡ false → from i j ≡ from i (j + 1)
-      step-pass-high e = rw (part-cons j n queue hj fits) (pass-high (inside q k) (high j) (high j) _ _ e)
+    pub step-last-low : i < length ws → length ws ≤ j → inside q k (lowAt p ws i) ≡ true → from i j ≡ lowAt p ws i ∷ from (i + 1) j
+    step-last-low hi hj e = rw (ended j hj, opened i hi) (only-low (inside q k) (lowAt p ws i) (lowAt p ws i) _ [] e)
 
-      pub step-low : inside q k (low i) ≡ true → inside q k (high j) ≡ true → notAfter (low i) (high j) ≡ true → from i j ≡ low i ∷ from (i + 1) j
-      step-low d e o = rw (part-cons i n queue hi fits, part-cons j n queue hj fits) (low-first (inside q k) (low i) (high j) _ _ d e o)
+    module _ (hi : i < length ws) (hj : j < length ws) where
+      pub step-low : inside q k (lowAt p ws i) ≡ true → inside q k (highAt p ws j) ≡ true → notAfter (lowAt p ws i) (highAt p ws j) ≡ true → from i j ≡ lowAt p ws i ∷ from (i + 1) j
+      step-low d e o = rw (opened i hi, opened j hj) (low-first (inside q k) (lowAt p ws i) (highAt p ws j) _ _ d e o)
 
-      pub step-high : inside q k (low i) ≡ true → inside q k (high j) ≡ true → notAfter (low i) (high j) ≡ false → from i j ≡ high j ∷ from i (j + 1)
-      step-high d e o = rw (part-cons i n queue hi fits, part-cons j n queue hj fits) (high-first (inside q k) (low i) (high j) _ _ d e o)
+      pub step-high : inside q k (lowAt p ws i) ≡ true → inside q k (highAt p ws j) ≡ true → notAfter (lowAt p ws i) (highAt p ws j) ≡ false → from i j ≡ highAt p ws j ∷ from i (j + 1)
+      step-high d e o = rw (opened i hi, opened j hj) (high-first (inside q k) (lowAt p ws i) (highAt p ws j) _ _ d e o)

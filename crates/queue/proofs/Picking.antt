@@ -1,99 +1,140 @@
--- Each way that `next_half` takes is a step of the merge.
-use mathlib.Core.Path.{_≡_, sym, _∙_}
+-- Each way that `grow` takes is a step of the merge.
+use mathlib.Core.Path.{_≡_, refl, sym, _∙_}
 use mathlib.Core.Bool.{Bool, true, false, cond}
+use mathlib.Core.Logic.{_⊎_, inl, inr, ⊎-elim}
 use mathlib.Core.List.{List, _∷_}
-use Prim.Native.Nat.{ℕ, _+_, _≤_, _<_}
+use Prim.Native.Nat.{ℕ, _+_, _^_, _≤_, _<_}
 use native.Mathlib.Omega.{arith}
 use lib.ListN.{length, getD, take}
-use lib.Seq.{length-take-le}
-use lib.Dec.{leb}
-use borrow.Author.Tests.{le-leb, lt-leb}
+use lib.Seq.{length-take-le, getD-take}
+use lib.Dec.{leb, ltb}
+use borrow.Author.Tests.{le-leb, lt-leb, leb-true, leb-false, ltb-true, ltb-false}
 use Rattle.rules.specs.declared.Parameter.{Parameter}
-use Rattle.rules.specs.Search.{Box, Depths, lowHalf, highHalf, notAfter}
-use Rattle.kernel.specs.declared.Pair.{Pair}
-use Rattle.kernel.specs.Kernel.{asked}
+use Rattle.rules.specs.Search.{Query, Box, Depths, stored, lowHalf, highHalf, inside, notAfter}
+use Rattle.kernel.specs.Ranges.{Shallow, InGrid}
 use Rattle.boxes.specs.Boxes.{boxOf}
 use Rattle.boxes.specs.Words.{same-order}
 use Rattle.queue.specs.declared.Pick.{Pick}
-use Rattle.queue.specs.All.{all-front}
+use Rattle.queue.specs.declared.Half.{Half}
+use Rattle.queue.specs.All.{All, all-at}
 use Rattle.queue.specs.Grid.{fits-grid, stored-of-level}
-use Rattle.queue.specs.Level.{Splits, PickIs, Picks, Picked, halvesFrom}
+use Rattle.queue.specs.Level.{OfLevel, Splits, PickIs, HalfIs, Picked, halvesFrom, lowAt, highAt, past}
 use Rattle.queue.proofs.Merging.{step-last-high, step-pass-low, step-last-low, step-pass-high, step-low, step-high}
 
-module _ (p : Pair) (k : Depths) (split : Parameter) (queue : List ℕ) (n i j : ℕ) (x : Picks k split queue n i j) where
-  abbrev lowBox : Box
-  lowBox = lowHalf split (boxOf (getD queue i 0))
+-- ---- a half at its place
 
-  abbrev highBox : Box
-  highBox = highHalf split (boxOf (getD queue j 0))
+below : {a n : ℕ} → a ≤ n → (a < n) ⊎ (a ≡ n)
+below {a} {n} h = go (ltb a n) refl
+  where
+    go : (b : Bool) → ltb a n ≡ b → (a < n) ⊎ (a ≡ n)
+    go true e = inl (ltb-true a n e)
+    go false e = inr (omega (arith, ltb-false a n e))
 
+pub half-past : (q : Query) (k : Depths) (half : ℕ → Box) (n i : ℕ) → i ≡ n → HalfIs q k half n (record { at = i; word = past; stays = true })
+half-past q k half n i e = record {
+  at-le = omega arith;
+  word = λ h. absurd (omega arith);
+  box = λ h. absurd (omega arith);
+  inside-is = λ h. absurd (omega arith);
+  none = λ h. refl;
+  none-stays = λ h. refl;
+}
+
+pub half-of : (q : Query) (k : Depths) (f : Box → Box) (queue : List ℕ) (n i a b : ℕ) (r : Pick) → i ≤ n → (i ≡ n → ⊥) → PickIs q k (f (boxOf (getD queue i 0))) a b r
+    → HalfIs q k (λ (x : ℕ). f (boxOf (getD (take n queue) x 0))) n (record { at = i; word = r .word; stays = r .stays })
+half-of q k f queue n i a b r le ne h = record {
+  at-le = le;
+  word = λ l. rw (getD-take n queue i 0 l) (h .word);
+  box = λ l. rw (getD-take n queue i 0 l) (h .box);
+  inside-is = λ l. rw (getD-take n queue i 0 l) (h .stays);
+  none = λ e. absurd (ne e);
+  none-stays = λ e. absurd (ne e);
+}
+
+-- ---- a step
+
+abbrev pub pickOf : ℕ → Bool → ℕ → ℕ → Pick
+pickOf word stays i j = record { word = word; stays = stays; i = i; j = j }
+
+module _ (q : Query) (k : Depths) (p : Parameter) (ws : List ℕ) (n : ℕ) (long : length ws ≡ n) (shallow : Shallow k) (splits : All (Splits k p) ws)
+    (low high : Half) (l : HalfIs q k (lowAt p ws) n low) (g : HalfIs q k (highAt p ws) n high) (some : low .at + high .at < n + n) where
   abbrev To : Pick → Type 0
-  To r = Picked (asked p) k split (take n queue) i j r
+  To r = Picked q k p ws (low .at) (high .at) r
 
-  long : length (take n queue) ≡ n
-  long = length-take-le n queue (x .fits)
+  low-grid : low .at < n → InGrid k (lowAt p ws (low .at))
+  low-grid h = all-at (Splits k p) ws (low .at) splits (omega arith) .0
 
-  pub splits : (a : ℕ) → a < n → Splits k split (getD queue a 0)
-  splits a h = all-front (Splits k split) queue n a (x .fits) (x .splits) h
+  high-grid : high .at < n → InGrid k (highAt p ws (high .at))
+  high-grid h = all-at (Splits k p) ws (high .at) splits (omega arith) .1
 
-  -- one place more, for a low half that is a box of the level
-  via-low : (r : Pick) → PickIs (asked p) k lowBox (i + 1) j r → i < n
-      → halvesFrom (asked p) k split (take n queue) i j ≡ cond (r .stays) (lowBox ∷ halvesFrom (asked p) k split (take n queue) (i + 1) j) (halvesFrom (asked p) k split (take n queue) (i + 1) j)
-      → To r
-  via-low r h l e = record {
-    halves = rw (h .box, h .i-is, h .j-is) e;
-    of-level = stored-of-level k lowBox (r .word) (x .shallow) (splits i l .0) (h .word) (h .box);
-    one-more = omega (arith, h .i-is, h .j-is);
-    i-le = omega (arith, long, h .i-is);
-    j-le = omega (arith, long, h .j-is, x .j-le);
-  }
+  low-level : low .at < n → OfLevel k (low .word)
+  low-level h = stored-of-level k (lowAt p ws (low .at)) (low .word) shallow (low-grid h) (l .word h) (l .box h)
 
-  -- the same for a high half
-  via-high : (r : Pick) → PickIs (asked p) k highBox i (j + 1) r → j < n
-      → halvesFrom (asked p) k split (take n queue) i j ≡ cond (r .stays) (highBox ∷ halvesFrom (asked p) k split (take n queue) i (j + 1)) (halvesFrom (asked p) k split (take n queue) i (j + 1))
-      → To r
-  via-high r h l e = record {
-    halves = rw (h .box, h .i-is, h .j-is) e;
-    of-level = stored-of-level k highBox (r .word) (x .shallow) (splits j l .1) (h .word) (h .box);
-    one-more = omega (arith, h .i-is, h .j-is);
-    i-le = omega (arith, long, h .i-is, x .i-le);
-    j-le = omega (arith, long, h .j-is);
-  }
+  high-level : high .at < n → OfLevel k (high .word)
+  high-level h = stored-of-level k (highAt p ws (high .at)) (high .word) shallow (high-grid h) (g .word h) (g .box h)
 
-  pub pick-last-high : (r : Pick) → PickIs (asked p) k highBox i (j + 1) r → i ≡ n → To r
-  pick-last-high r h e =
-      via-high r h (omega (arith, x .some)) (step-last-high (asked p) k split queue n (x .fits) i j (r .stays) (omega arith) (omega (arith, x .some)) (sym (h .stays)))
+  module _ (i : ℕ) (next : i ≡ low .at + 1) where
+    via-low : (b : Bool) → low .at < n
+        → halvesFrom q k p ws (low .at) (high .at) ≡ cond b (lowAt p ws (low .at) ∷ halvesFrom q k p ws (low .at + 1) (high .at)) (halvesFrom q k p ws (low .at + 1) (high .at))
+        → To (pickOf (low .word) b i (high .at))
+    via-low b h e = record {
+      halves = rw (l .box h, next) e;
+      of-level = low-level h;
+      i-le = omega (arith, long);
+      j-le = omega (arith, long, g .at-le);
+    }
 
-  module _ (some : i ≡ n → ⊥) (l : Pick) (hl : PickIs (asked p) k lowBox (i + 1) j l) where
-    i-lt : i < n
-    i-lt = omega (arith, x .i-le)
+    pub pick-pass-low : low .stays ≡ false → To (pickOf (low .word) false i (high .at))
+    pick-pass-low e =
+        ⊎-elim (λ h. via-low false h (step-pass-low q k p ws (low .at) (high .at) (omega arith) (sym (l .inside-is h) ∙ e)))
+        (λ z. absurd (let o = l .none-stays z in let zero : _≡_ {A = ℕ} 0 1 = cc in omega arith))
+        (below (l .at-le))
 
-    pub pick-pass-low : l .stays ≡ false → To l
-    pick-pass-low e = via-low l hl i-lt (rw e (step-pass-low (asked p) k split queue n (x .fits) i j i-lt (sym (hl .stays) ∙ e)))
+    pub pick-low : low .stays ≡ true → high .stays ≡ true → low .word ≤ high .word → To (pickOf (low .word) true i (high .at))
+    pick-low d e o =
+        ⊎-elim
+        (λ hj. ⊎-elim
+        (λ hi. via-low true hi (step-low q k p ws (low .at) (high .at) (omega arith) (omega arith) (sym (l .inside-is hi) ∙ d) (sym (g .inside-is hj) ∙ e)
+        (same-order (lowAt p ws (low .at)) (highAt p ws (high .at)) (fits-grid k (lowAt p ws (low .at)) shallow (low-grid hi)) (fits-grid k (highAt p ws (high .at)) shallow (high-grid hj))
+        ∙ le-leb (stored (lowAt p ws (low .at))) (stored (highAt p ws (high .at))) (omega (arith, l .word hi, g .word hj)))))
+        (λ z. absurd (omega (arith, l .none z, high-level hj .fits)))
+        (below (l .at-le)))
+        (λ z. let hi : low .at < n = omega arith in via-low true hi (step-last-low q k p ws (low .at) (high .at) (omega arith) (omega arith) (sym (l .inside-is hi) ∙ d)))
+        (below (g .at-le))
 
-    module _ (stays : l .stays ≡ true) where
-      pub pick-last-low : j ≡ n → To l
-      pick-last-low e =
-          via-low l hl i-lt (rw stays (step-last-low (asked p) k split queue n (x .fits) i j i-lt (omega arith) (sym (hl .stays) ∙ stays)))
+  module _ (j : ℕ) (next : j ≡ high .at + 1) where
+    via-high : (b : Bool) → high .at < n
+        → halvesFrom q k p ws (low .at) (high .at) ≡ cond b (highAt p ws (high .at) ∷ halvesFrom q k p ws (low .at) (high .at + 1)) (halvesFrom q k p ws (low .at) (high .at + 1))
+        → To (pickOf (high .word) b (low .at) j)
+    via-high b h e = record {
+      halves = rw (g .box h, next) e;
+      of-level = high-level h;
+      i-le = omega (arith, long, l .at-le);
+      j-le = omega (arith, long);
+    }
 
-      module _ (more : j ≡ n → ⊥) (r : Pick) (hr : PickIs (asked p) k highBox i (j + 1) r) where
-        j-lt : j < n
-        j-lt = omega (arith, x .j-le)
+    pub pick-pass-high : high .stays ≡ false → To (pickOf (high .word) false (low .at) j)
+    pick-pass-high e =
+        ⊎-elim (λ h. via-high false h (step-pass-high q k p ws (low .at) (high .at) (omega arith) (sym (g .inside-is h) ∙ e)))
+        (λ z. absurd (let o = g .none-stays z in let zero : _≡_ {A = ℕ} 0 1 = cc in omega arith))
+        (below (g .at-le))
 
-        pub pick-pass-high : r .stays ≡ false → To r
-        pick-pass-high e = via-high r hr j-lt (rw e (step-pass-high (asked p) k split queue n (x .fits) i j i-lt j-lt (sym (hr .stays) ∙ e)))
+    pub pick-high : low .stays ≡ true → high .stays ≡ true → high .word < low .word → To (pickOf (high .word) true (low .at) j)
+    pick-high d e o =
+        ⊎-elim
+        (λ hi. ⊎-elim
+        (λ hj. via-high true hj (step-high q k p ws (low .at) (high .at) (omega arith) (omega arith) (sym (l .inside-is hi) ∙ d) (sym (g .inside-is hj) ∙ e)
+        (same-order (lowAt p ws (low .at)) (highAt p ws (high .at)) (fits-grid k (lowAt p ws (low .at)) shallow (low-grid hi)) (fits-grid k (highAt p ws (high .at)) shallow (high-grid hj))
+        ∙ lt-leb (stored (lowAt p ws (low .at))) (stored (highAt p ws (high .at))) (omega (arith, l .word hi, g .word hj)))))
+        (λ z. absurd (omega (arith, g .none z, low-level hi .fits)))
+        (below (g .at-le)))
+        (λ z. let hj : high .at < n = omega arith in via-high true hj (step-last-high q k p ws (low .at) (high .at) (omega arith) (omega arith) (sym (g .inside-is hj) ∙ e)))
+        (below (l .at-le))
 
-        module _ (both : r .stays ≡ true) where
-          -- the words are compared, and so the boxes
-          order : (b : Bool) → leb (l .word) (r .word) ≡ b → notAfter lowBox highBox ≡ b
-          order b e =
-              same-order lowBox highBox (fits-grid k lowBox (x .shallow) (splits i i-lt .0)) (fits-grid k highBox (x .shallow) (splits j j-lt .1))
-              ∙ rw (hl .word, hr .word) at e
-
-          pub pick-low : l .word ≤ r .word → To l
-          pick-low h =
-              via-low l hl i-lt (rw stays (step-low (asked p) k split queue n (x .fits) i j i-lt j-lt (sym (hl .stays) ∙ stays) (sym (hr .stays) ∙ both) (order true (le-leb (l .word) (r .word) h))))
-
-          pub pick-high : r .word < l .word → To r
-          pick-high h =
-              via-high r hr j-lt (rw both (step-high (asked p) k split queue n (x .fits) i j i-lt j-lt (sym (hl .stays) ∙ stays) (sym (hr .stays) ∙ both) (order false (lt-leb (l .word) (r .word) h))))
+  -- the next one, whichever it is
+  pub pick-any : low .stays ≡ true → high .stays ≡ true → (P : Type 0) → ((r : Pick) → To r → r .stays ≡ true → P) → P
+  pick-any d e P f = go (leb (low .word) (high .word)) refl
+    where
+      go : (b : Bool) → leb (low .word) (high .word) ≡ b → P
+      go true x = f (pickOf (low .word) true (low .at + 1) (high .at)) (pick-low (low .at + 1) refl d e (leb-true (low .word) (high .word) x)) refl
+      go false x = f (pickOf (high .word) true (low .at) (high .at + 1)) (pick-high (high .at + 1) refl d e (leb-false (low .word) (high .word) x)) refl

@@ -14,7 +14,7 @@ module _ (P : ℕ → Type 0) where
   all-snoc [] w a h = (h, tt)
   all-snoc (v ∷ ws) w a h = (a .0, all-snoc ws w (a .1) h)
 
-  all-at : (ws : List ℕ) (i : ℕ) → All P ws → i < length ws → P (getD ws i 0)
+  pub all-at : (ws : List ℕ) (i : ℕ) → All P ws → i < length ws → P (getD ws i 0)
   all-at [] i a l = absurd (not-suc-le-zero l)
   all-at (w ∷ ws) zero a l = a .0
   all-at (w ∷ ws) (suc i) a l = all-at ws i (a .1) (le-of-suc-le-suc l)

@@ -1,9 +1,9 @@
 -- A level as the first words of the queue, and how the next one grows from it.
 use mathlib.Core.Path.{_≡_}
-use mathlib.Core.Bool.{cond}
+use mathlib.Core.Bool.{true, cond}
 use mathlib.Core.List.{List, _∷_, map}
 use Prim.Native.Nat.{ℕ, _+_, _^_, _≤_, _<_}
-use lib.ListN.{length, take, drop}
+use lib.ListN.{length, getD, take, drop}
 use Rattle.rules.specs.declared.Parameter.{Parameter}
 use Rattle.rules.specs.Search.{Query, Box, Depths, stored, lowHalf, highHalf, inside, those, merge, halves}
 use Rattle.kernel.specs.declared.Pair.{Pair}
@@ -11,6 +11,7 @@ use Rattle.kernel.specs.Kernel.{asked}
 use Rattle.kernel.specs.Ranges.{Shallow, InGrid}
 use Rattle.boxes.specs.Boxes.{boxOf}
 use Rattle.queue.specs.declared.Pick.{Pick}
+use Rattle.queue.specs.declared.Half.{Half}
 use Rattle.queue.specs.declared.Next.{Next}
 use Rattle.queue.specs.declared.Next.the-variants.{Room, Level}
 use Rattle.queue.specs.All.{All}
@@ -46,18 +47,34 @@ abbrev pub halvesFrom : Query → Depths → Parameter → List ℕ → ℕ → 
 halvesFrom q k p words i j =
     merge (those (inside q k) (map (lowHalf p) (map boxOf (drop i words)))) (those (inside q k) (map (highHalf p) (map boxOf (drop j words))))
 
-pub record Picks (k : Depths) (split : Parameter) (queue : List ℕ) (n i j : ℕ) : Type 0 where
+pub record Looks (k : Depths) (split : Parameter) (queue : List ℕ) (n i : ℕ) : Type 0 where
   pub shallow : Shallow k
   pub fits : n ≤ length queue
   pub i-le : i ≤ n
-  pub j-le : j ≤ n
-  pub some : i + j < n + n
   pub splits : All (Splits k split) (take n queue)
+
+-- greater than the word of any box
+abbrev pub past : ℕ
+past = 18_446_744_073_709_551_615
+
+abbrev pub lowAt : Parameter → List ℕ → ℕ → Box
+lowAt p words i = lowHalf p (boxOf (getD words i 0))
+
+abbrev pub highAt : Parameter → List ℕ → ℕ → Box
+highAt p words i = highHalf p (boxOf (getD words i 0))
+
+-- of n halves the one at its place, or none
+pub record HalfIs (q : Query) (k : Depths) (half : ℕ → Box) (n : ℕ) (r : Half) : Type 0 where
+  pub at-le : r .at ≤ n
+  pub word : r .at < n → r .word ≡ stored (half (r .at))
+  pub box : r .at < n → boxOf (r .word) ≡ half (r .at)
+  pub inside-is : r .at < n → r .stays ≡ inside q k (half (r .at))
+  pub none : r .at ≡ n → r .word ≡ past
+  pub none-stays : r .at ≡ n → r .stays ≡ true
 
 pub record Picked (q : Query) (k : Depths) (split : Parameter) (words : List ℕ) (i j : ℕ) (r : Pick) : Type 0 where
   pub halves : halvesFrom q k split words i j ≡ cond (r .stays) (boxOf (r .word) ∷ halvesFrom q k split words (r .i) (r .j)) (halvesFrom q k split words (r .i) (r .j))
   pub of-level : OfLevel k (r .word)
-  pub one-more : r .i + r .j ≡ i + j + 1
   pub i-le : r .i ≤ length words
   pub j-le : r .j ≤ length words
 

@@ -7,7 +7,7 @@ ghost use Rattle.rules.specs.Search.{lowHalf, highHalf};
 ghost use Rattle.kernel.specs.Kernel.{asked};
 ghost use Rattle.boxes.specs.Boxes.{boxOf};
 ghost use Rattle.queue.specs.Cleared.{cleared};
-ghost use Rattle.queue.specs.Level.{Halved, PickIs, Picks, Picked, Grows, Grown};
+ghost use Rattle.queue.specs.Level.{Halved, PickIs, Looks, HalfIs, lowAt, highAt, Grows, Grown};
 use boxes::high_half;
 use boxes::low_half;
 use boxes::pack;
@@ -83,34 +83,52 @@ fn high_of(p: Pair, k: Three, split: Parameter, word: u64, i: usize, j: usize) -
     }
 }
 
-// The lesser of the ith box's low half and the jth box's high half; one that does not stay is passed by itself.
-fn next_half(
-    p: Pair,
-    k: Three,
-    split: Parameter,
-    queue: &[u64],
-    n: usize,
-    i: usize,
-    j: usize,
-) -> Pick
-    requires { ⌜ Picks k split (now queue) n i j ⌝ }
-    ensures { λ r. ⌜ Picked (asked p) k split (take n (now (queue .entry))) i j r ⌝ }
+// Greater than the word of any box.
+const PAST: u64 = 18446744073709551615;
+
+// The half of a place, or past the last place one that stays, with the word `PAST`.
+pub struct Half {
+    pub at: usize,
+    pub word: u64,
+    pub stays: bool,
+}
+
+fn low_at(p: Pair, k: Three, split: Parameter, queue: &[u64], n: usize, i: usize) -> Half
+    requires { ⌜ Looks k split (now queue) n i ⌝ }
+    ensures { λ r. ⌜ (r .at ≡ i) × HalfIs (asked p) k (lowAt split (take n (now (queue .entry)))) n r ⌝ }
 {
     if i == n {
-        return high_of(p, k, split, queue[j], i, j);
+        return Half {
+            at: i,
+            word: PAST,
+            stays: true,
+        };
     }
-    let low = low_of(p, k, split, queue[i], i, j);
-    if !low.stays {
-        return low;
+    let l = low_of(p, k, split, queue[i], i, 0);
+    Half {
+        at: i,
+        word: l.word,
+        stays: l.stays,
     }
+}
+
+fn high_at(p: Pair, k: Three, split: Parameter, queue: &[u64], n: usize, j: usize) -> Half
+    requires { ⌜ Looks k split (now queue) n j ⌝ }
+    ensures { λ r. ⌜ (r .at ≡ j) × HalfIs (asked p) k (highAt split (take n (now (queue .entry)))) n r ⌝ }
+{
     if j == n {
-        return low;
+        return Half {
+            at: j,
+            word: PAST,
+            stays: true,
+        };
     }
-    let high = high_of(p, k, split, queue[j], i, j);
-    if !high.stays {
-        return high;
+    let l = high_of(p, k, split, queue[j], 0, j);
+    Half {
+        at: j,
+        word: l.word,
+        stays: l.stays,
     }
-    if low.word <= high.word { low } else { high }
 }
 
 // The next level has no room, or so many boxes.
@@ -125,19 +143,30 @@ pub fn grow(p: Pair, k: Three, split: Parameter, queue: &mut [u64], n: usize) ->
     ensures { λ r. ⌜ Grown p k split n (now (queue .entry)) (now (queue .exit)) r ⌝ }
 {
     let h = p.room;
-    let mut i = 0;
-    let mut j = 0;
+    let mut low = low_at(p, k, split, queue, n, 0);
+    let mut high = high_at(p, k, split, queue, n, 0);
     let mut m = 0;
-    while i + j < n + n {
-        let next = next_half(p, k, split, queue, n, i, j);
-        i = next.i;
-        j = next.j;
-        if next.stays {
+    // each half is worked out once: only the list that one was taken from goes on
+    while low.at + high.at < n + n {
+        if !low.stays {
+            low = low_at(p, k, split, queue, n, low.at + 1);
+        } else if !high.stays {
+            high = high_at(p, k, split, queue, n, high.at + 1);
+        } else {
             if m == h {
                 return Next::Room;
             }
-            queue[h + m] = next.word;
-            m += 1;
+            if low.word <= high.word {
+                let word = low.word;
+                low = low_at(p, k, split, queue, n, low.at + 1);
+                queue[h + m] = word;
+                m += 1;
+            } else {
+                let word = high.word;
+                high = high_at(p, k, split, queue, n, high.at + 1);
+                queue[h + m] = word;
+                m += 1;
+            }
         }
     }
     Next::Level(m)

@@ -1,7 +1,7 @@
 -- The loop over the levels: what is left to do gives the whole search's answer.
 use mathlib.Core.Path.{_≡_, refl, sym, ap, _∙_}
 use mathlib.Core.List.{List, [], _∷_}
-use Prim.Native.Nat.{ℕ, zero, suc, _-_, _<_}
+use Prim.Native.Nat.{ℕ, zero, suc, _-_, _<_, _≤_}
 use native.Mathlib.Omega.{arith}
 use borrow.Author.Tests.{ne-eqb}
 use lib.Dec.{eqb}
@@ -12,10 +12,9 @@ use Rattle.rules.specs.declared.Answer.the-variants.{Met, Clear, Spent, Room, F
 use Rattle.rules.specs.declared.Record.{Record}
 use Rattle.rules.specs.Answers.{queueAfter}
 use Rattle.rules.specs.Refusals.{searchRefusal}
-use Rattle.rules.specs.Search.{origin, survives, oneBox, check, afterLevel, levels, run, unless, query, search}
+use Rattle.rules.specs.Search.{Query, origin, survives, oneBox, check, afterLevel, levels, run, unless, query, search}
 use Rattle.kernel.specs.declared.Pair.{Pair}
 use Rattle.kernel.specs.Kernel.{asked}
-use Rattle.kernel.specs.Ranges.{Ranged}
 use Rattle.search.specs.declared.Level.{Level}
 use Rattle.search.specs.declared.Step.{Step}
 use Rattle.search.specs.declared.Step.the-variants.{Ends, Goes}
@@ -64,9 +63,9 @@ module _ (p : Pair) (queue : List ℕ) (z : Zeroed p queue) where
 
 -- ---- apart over the whole cube
 
-pub apart : (p : Pair) → Ranged p → survives (asked p) origin origin ≡ false → Clear 1 ≡ run (asked p)
+pub apart : (q : Query) → 1 ≤ q .budget → survives q origin origin ≡ false → Clear 1 ≡ run q
 unfolding run levels check oneBox afterLevel
-apart p r e = let b : eqb 0 (p .budget) ≡ false = ne-eqb 0 (p .budget) (omega (arith, r .least-budget)) in sym (rw (b, e))
+apart q h e = let b : eqb 0 (q .budget) ≡ false = ne-eqb 0 (q .budget) (omega arith) in sym (rw (b, e))
 
 -- ---- a step
 

@@ -70,6 +70,13 @@ pub record BoxIs (q : Query) (k : Depths) (box : Box) (seen : Bool) (c : Corner)
 
 -- ---- one level
 
+-- the first words are boxes of the level
+pub record Opens (p : Pair) (k : Depths) (queue : List ℕ) (n : ℕ) : Type 0 where
+  pub ranged : Ranged p
+  pub shallow : Shallow k
+  pub fits : n ≤ length queue
+  pub grid : All (OfLevel k) (take n queue)
+
 abbrev pub boxes : List ℕ → Level → List Box
 boxes queue l = map boxOf (take (l .size) queue)
 

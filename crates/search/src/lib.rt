@@ -9,8 +9,13 @@ ghost use Rattle.rules.specs.Answers.{queueAfter};
 ghost use Rattle.rules.specs.Search.{deeper, run, search};
 ghost use Rattle.kernel.specs.Kernel.{asked};
 ghost use Rattle.kernel.specs.Ranges.{Shallow};
-ghost use Rattle.search.specs.Levels.{Answers, OneBox, FirstIs, BoxIs, Fine, Tidy, CheckIs, Splitting, SplitIs, StepIs, Zeroed, Accepted, Clean};
+ghost use Rattle.gap.specs.Slab.{slabOf};
+ghost use Rattle.search.specs.Levels.{Answers, OneBox, Opens, FirstIs, BoxIs, Fine, Tidy, CheckIs, Splitting, SplitIs, StepIs, Zeroed, Accepted, Clean};
 use boxes::unpack;
+use gap::slab::Slab;
+use gap::slab::renewed;
+use gap::slab::slab_at;
+use gap::slab::survives_in;
 use kernel::Pair;
 use queue::Next;
 use queue::clear;
@@ -80,9 +85,9 @@ fn first_survivor(p: Pair, k: Three, b: Three, count: u32) -> Seen
     Seen::Survives(c)
 }
 
-// One box, before which the budget is asked; `seen`: the level has had a survivor.
-fn check_box(p: Pair, k: Three, b: Three, seen: bool, c: Corner, count: u32) -> Seen
-    requires { ⌜ OneBox p k b × (count ≤ p .budget) ⌝ }
+// One box, before which the budget is asked; `slab` is that of its t index; `seen`: the level has had a survivor.
+fn check_box(p: Pair, k: Three, slab: Slab, b: Three, seen: bool, c: Corner, count: u32) -> Seen
+    requires { ⌜ OneBox p k b × ((count ≤ p .budget) × (slab ≡ slabOf p k (b .t))) ⌝ }
     ensures { λ r. ⌜ BoxIs (asked p) k b seen c count r ⌝ }
 {
     if count == p.budget {
@@ -94,13 +99,25 @@ fn check_box(p: Pair, k: Three, b: Three, seen: bool, c: Corner, count: u32) -> 
             count,
         });
     }
-    if !gap::survives(p, k, b) {
+    if !survives_in(p, k, slab, b) {
         return Seen::Lost;
     }
     if seen {
         return Seen::Survives(c);
     }
     first_survivor(p, k, b, count + 1)
+}
+
+// What the boxes of a level's first t index share.
+fn first_slab(p: Pair, k: Three, queue: &[u64], n: usize) -> Slab
+    requires { ⌜ Opens p k (now queue) n ⌝ }
+    ensures { λ r. ⌜ r ≡ slabOf p k (r .t) ⌝ }
+{
+    if n == 0 {
+        return slab_at(p, k, 0);
+    }
+    let b = unpack(queue[0]);
+    slab_at(p, k, b.t)
 }
 
 // CheckIs a level's boxes in order, and keeps the survivors at the front.
@@ -114,10 +131,13 @@ fn check_level(p: Pair, queue: &mut [u64], l: Level) -> Step
     let mut count = l.count;
     let mut i = 0;
     let mut m = 0;
+    let mut slab = first_slab(p, k, queue, n);
     while i < n {
         let w = queue[i];
         i += 1;
-        match check_box(p, k, unpack(w), 0 < m, corner, count) {
+        let b = unpack(w);
+        slab = renewed(p, k, b.t, slab);
+        match check_box(p, k, slab, b, 0 < m, corner, count) {
             Seen::Ends(a) => return Step::Ends(a),
             Seen::Lost => count += 1,
             Seen::Survives(c) => {
@@ -268,18 +288,28 @@ pub fn clear_unless(queue: &mut [u64], clean: bool)
     }
 }
 
-// The search of a record that is not refused, in a queue of zeros: one who has checked many records at once asks so.
-pub fn search_accepted(r: Record, queue: &mut [u64]) -> Answer
+// The search of a record that is not refused, in a queue of zeros, from the whole cube down.
+fn search_levels(r: Record, queue: &mut [u64]) -> Answer
     requires { ⌜ Accepted r (now queue) ⌝ }
     ensures { λ a. ⌜ a ≡ search r (length (now (queue .entry))) ⌝ }
     ensures { λ a. ⌜ now (queue .exit) ≡ now (queue .entry) ⌝ }
     ensures { λ a. ⌜ Answers a ⌝ }
 {
     let p = gap::prepare(r, queue.len());
-    if gap::survives_whole(p) {
-        return search_zeroed(p, queue);
+    search_zeroed(p, queue)
+}
+
+// The same, where the whole cube is asked first: one who has checked many records at once asks so.
+pub fn search_accepted(r: Record, queue: &mut [u64]) -> Answer
+    requires { ⌜ Accepted r (now queue) ⌝ }
+    ensures { λ a. ⌜ a ≡ search r (length (now (queue .entry))) ⌝ }
+    ensures { λ a. ⌜ now (queue .exit) ≡ now (queue .entry) ⌝ }
+    ensures { λ a. ⌜ Answers a ⌝ }
+{
+    if gap::survives_whole(r, queue.len()) {
+        return search_levels(r, queue);
     }
-    // most pairs are apart over the whole cube: no word is touched
+    // most pairs are apart over the whole cube: nothing is prepared, and no word is touched
     Answer::Clear(1)
 }
 
@@ -294,7 +324,11 @@ pub fn search_in(r: Record, queue: &mut [u64], clean: bool) -> Answer
         return Answer::Refused(number);
     }
     clear_unless(queue, clean);
-    search_accepted(r, queue)
+    // as `search_accepted`, said again: with two callers the levels stay a function of their own, and level 0 has no share in its frame
+    if gap::survives_whole(r, queue.len()) {
+        return search_levels(r, queue);
+    }
+    Answer::Clear(1)
 }
 
 // The search of a record: a refusal touches no word, and after any answer every word is zero.

@@ -1,6 +1,6 @@
 -- `gap::survives` meets its contract.
 use borrow.Author.Needs.{needs}
-use Rattle.gap.specs.Asked.{survives-is}
+use Rattle.gap.specs.Asked.{by-height}
 use Rattle.gap.proofs.survives.Statement.{statement}
 use Rattle.gap.proofs.survives.Tie as tie
 
@@ -20,7 +20,7 @@ returns : tie.Need-returns
 returns c =
     let a = c .before .before .before .before .before .before .args in
     rw (
-      ← survives-is (a .p) (a .k) (a .i),
+      ← by-height (a .p) (a .k) (a .i),
       ← c .before .before .before .before .before .cell-of .ensures .is,
       ← c .before .before .before .before .meets .ensures,
       c .before .before .before .if1 .taken,
@@ -33,7 +33,7 @@ returns-2 : tie.Need-returns-2
 returns-2 c =
     let a = c .before .before .before .before .before .args in
     rw (
-      ← survives-is (a .p) (a .k) (a .i),
+      ← by-height (a .p) (a .k) (a .i),
       ← c .before .before .before .before .cell-of .ensures .is,
       ← c .before .before .before .meets .ensures,
       c .before .before .if1 .taken,
@@ -44,7 +44,7 @@ returns-2 c =
 returns-3 : tie.Need-returns-3
 returns-3 c =
     let a = c .before .before .before .args in
-    rw (← survives-is (a .p) (a .k) (a .i), ← c .before .before .cell-of .ensures .is, ← c .before .meets .ensures, c .if1 .left)
+    rw (← by-height (a .p) (a .k) (a .i), ← c .before .before .cell-of .ensures .is, ← c .before .meets .ensures, c .if1 .left)
 
 pub survives-spec : {M : Type 1} → statement M
 survives-spec =

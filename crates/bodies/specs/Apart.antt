@@ -1,0 +1,550 @@
+-- Two triangles that are further apart on an axis than the separation: every one of their fifteen queries misses over the whole cube.
+-- A triangle reaches over its parallelogram, the fourth corner too, since the level 0 box of a face reaches it (document 02, R-9).
+use mathlib.Core.Path.{_≡_, refl, sym, ap, _∙_, subst}
+use mathlib.Core.Bool.{Bool, true, false, cond, _&&_}
+use mathlib.Core.Logic.{_⊎_, inl, inr, ⊎-elim}
+use mathlib.Core.List.{List, [], _∷_}
+use Prim.Native.Nat.{ℕ, zero, suc, _+_, _*_, _≤_, _<_}
+use native.Mathlib.Omega.{arith}
+use lib.IntN.{ℤ, pos, negℤ, _+ℤ_, _-ℤ_}
+use lib.ListN.{length, getD}
+use lib.Dec.{ltb, eqb, lit<, lit≤}
+use borrow.Author.Tests.{ne-eqb}
+use lib.Signed.{_≤ℤ_, _<ℤ_, leZ, ≤ℤ-refl}
+use Rattle.whole.specs.Defs.{minZ, maxZ}
+use Rattle.whole.specs.View.{minus-view, neg-up, neg-dn, zed}
+use Rattle.whole.specs.Order.{≤ℤ-trans, +ℤ-mono, min-le, le-max, min-pick, max-pick, lt-leZ}
+use Rattle.whole.specs.Ring.{var, num, _:+_, _:-_, ring}
+use Rattle.rules.specs.declared.Record.{Record}
+use Rattle.rules.specs.declared.Answer.{Answer}
+use Rattle.rules.specs.declared.Answer.the-variants.{Clear}
+use Rattle.rules.specs.declared.BodyAnswer.{BodyAnswer}
+use Rattle.rules.specs.declared.BodyAnswer.the-variants.{Clear as BodyClear, Least, Refused}
+use Rattle.rules.specs.declared.Terms.{Terms}
+use Rattle.rules.specs.declared.Ask.{Ask}
+use Rattle.rules.specs.Gap.{Axis, X, Y, Z, place, separationOn}
+use Rattle.rules.specs.Refusals.{searchRefusal}
+use Rattle.rules.specs.Answers.{told}
+use Rattle.rules.specs.Search.{query, origin, survives, search, unless, run, levels, check, oneBox, afterLevel}
+use Rattle.rules.specs.Bodies.{Body, Asked, sumOf, counted, heard, hearAll, face, edges, fifteen, cornerPlace, askOf, askedFrom, pairQueries}
+use Rattle.kernel.specs.declared.Kernel.{Kernel}
+use Rattle.gap.specs.declared.span.Span.{Span}
+use Rattle.gap.specs.Corners.{meets, joined}
+use Rattle.gap.specs.Cube.{squareOf, cubeOf, wholeCube, meets-whole}
+use Rattle.gap.specs.Prepared.{axisOf, misses-any}
+use Rattle.kernel.specs.Ranges.{Small}
+use Rattle.whole.specs.Within.{Within, within-sub, within-pos, within-more}
+use Rattle.refusals.specs.Accepted.{accepted-search}
+use Rattle.triangles.specs.Members.{All, askAt}
+use Rattle.bodies.specs.Asking.{body}
+use Rattle.bodies.specs.Walk.{positions}
+
+-- ---- numbers within a span
+
+pub record In (s : Span) (z : ℤ) : Type 0 where
+  pub above : s .least ≤ℤ z
+  pub below : z ≤ℤ s .greatest
+
+-- a triangle's corners and the fourth of its parallelogram
+pub record Holds (s : Span) (x y z : ℤ) : Type 0 where
+  pub one : In s x
+  pub two : In s y
+  pub three : In s z
+  pub four : In s (y +ℤ z -ℤ x)
+
+module _ (a b c : ℤ) where
+  in-square : (y z : ℤ) → (minZ (pos 0) b ≤ℤ y) × (y ≤ℤ maxZ (pos 0) b) → (minZ (pos 0) c ≤ℤ z) × (z ≤ℤ maxZ (pos 0) c) → In (squareOf a b c) (a +ℤ y +ℤ z)
+  in-square y z h k = record { above = +ℤ-mono (+ℤ-mono (≤ℤ-refl a) (h .0)) (k .0); below = +ℤ-mono (+ℤ-mono (≤ℤ-refl a) (h .1)) (k .1) }
+
+  low-end : (x : ℤ) → (minZ (pos 0) x ≤ℤ pos 0) × (pos 0 ≤ℤ maxZ (pos 0) x)
+  low-end x = (min-le (pos 0) x .0, le-max (pos 0) x .0)
+
+  high-end : (x : ℤ) → (minZ (pos 0) x ≤ℤ x) × (x ≤ℤ maxZ (pos 0) x)
+  high-end x = (min-le (pos 0) x .1, le-max (pos 0) x .1)
+
+  -- what the four corners are within, all of the square is
+  pub square-above : (m : ℤ) → m ≤ℤ (a +ℤ pos 0 +ℤ pos 0) → m ≤ℤ (a +ℤ pos 0 +ℤ c) → m ≤ℤ (a +ℤ b +ℤ pos 0) → m ≤ℤ (a +ℤ b +ℤ c) → m ≤ℤ squareOf a b c .least
+  square-above m f g h k =
+      min-pick (λ (y : ℤ). m ≤ℤ (a +ℤ y +ℤ minZ (pos 0) c)) (pos 0) b
+      (min-pick (λ (z : ℤ). m ≤ℤ (a +ℤ pos 0 +ℤ z)) (pos 0) c f g)
+      (min-pick (λ (z : ℤ). m ≤ℤ (a +ℤ b +ℤ z)) (pos 0) c h k)
+
+  pub square-below : (m : ℤ) → (a +ℤ pos 0 +ℤ pos 0) ≤ℤ m → (a +ℤ pos 0 +ℤ c) ≤ℤ m → (a +ℤ b +ℤ pos 0) ≤ℤ m → (a +ℤ b +ℤ c) ≤ℤ m → squareOf a b c .greatest ≤ℤ m
+  square-below m f g h k =
+      max-pick (λ (y : ℤ). (a +ℤ y +ℤ maxZ (pos 0) c) ≤ℤ m) (pos 0) b
+      (max-pick (λ (z : ℤ). (a +ℤ pos 0 +ℤ z) ≤ℤ m) (pos 0) c f g)
+      (max-pick (λ (z : ℤ). (a +ℤ b +ℤ z) ≤ℤ m) (pos 0) c h k)
+
+-- a triangle's own square, and what is joined with it
+abbrev pub triangleSpan : ℤ → ℤ → ℤ → Span
+triangleSpan x y z = squareOf x (y -ℤ x) (z -ℤ x)
+
+pub triangle-holds : (x y z : ℤ) → Holds (triangleSpan x y z) x y z
+triangle-holds x y z =
+    let b = y -ℤ x in
+    let c = z -ℤ x in
+    let at = in-square x b c in
+    let low = low-end x b c in
+    let high = high-end x b c in
+    record {
+      one = subst (In (triangleSpan x y z)) (ring (x ∷ []) (var 0 :+ num (pos 0) :+ num (pos 0)) (var 0) tt) (at (pos 0) (pos 0) (low b) (low c));
+      two = subst (In (triangleSpan x y z)) (ring (x ∷ y ∷ []) (var 0 :+ (var 1 :- var 0) :+ num (pos 0)) (var 1) tt) (at b (pos 0) (high b) (low c));
+      three = subst (In (triangleSpan x y z)) (ring (x ∷ z ∷ []) (var 0 :+ num (pos 0) :+ (var 1 :- var 0)) (var 1) tt) (at (pos 0) c (low b) (high c));
+      four = subst (In (triangleSpan x y z)) (ring (x ∷ y ∷ z ∷ []) (var 0 :+ (var 1 :- var 0) :+ (var 2 :- var 0)) (var 1 :+ var 2 :- var 0) tt) (at b c (high b) (high c));
+    }
+
+module _ (s t : Span) where
+  in-first : {z : ℤ} → In s z → In (joined s t) z
+  in-first h = record { above = ≤ℤ-trans (min-le (s .least) (t .least) .0) (h .above); below = ≤ℤ-trans (h .below) (le-max (s .greatest) (t .greatest) .0) }
+
+  in-second : {z : ℤ} → In t z → In (joined s t) z
+  in-second h = record { above = ≤ℤ-trans (min-le (s .least) (t .least) .1) (h .above); below = ≤ℤ-trans (h .below) (le-max (s .greatest) (t .greatest) .1) }
+
+  pub holds-first : {x y z : ℤ} → Holds s x y z → Holds (joined s t) x y z
+  holds-first h = record { one = in-first (h .one); two = in-first (h .two); three = in-first (h .three); four = in-first (h .four) }
+
+  pub holds-second : {x y z : ℤ} → Holds t x y z → Holds (joined s t) x y z
+  holds-second h = record { one = in-second (h .one); two = in-second (h .two); three = in-second (h .three); four = in-second (h .four) }
+
+-- ---- F between two bodies' spans
+
+pub record Between (P Q s : Span) : Type 0 where
+  pub above : (P .least -ℤ Q .greatest) ≤ℤ s .least
+  pub below : s .greatest ≤ℤ (P .greatest -ℤ Q .least)
+
+module _ (P Q : Span) where
+  apart-above : {p v : ℤ} (z : ℤ) → In P p → In Q v → p -ℤ v ≡ z → (P .least -ℤ Q .greatest) ≤ℤ z
+  apart-above {p} {v} z h k e = subst (λ (x : ℤ). (P .least -ℤ Q .greatest) ≤ℤ x) e (omega (zed, minus-view (P .least) (Q .greatest), minus-view p v, h .above, k .below))
+
+  apart-below : {p v : ℤ} (z : ℤ) → In P p → In Q v → p -ℤ v ≡ z → z ≤ℤ (P .greatest -ℤ Q .least)
+  apart-below {p} {v} z h k e = subst (λ (x : ℤ). x ≤ℤ (P .greatest -ℤ Q .least)) e (omega (zed, minus-view (P .greatest) (Q .least), minus-view p v, h .below, k .above))
+
+  -- a corner and a face, at a moment
+  pub face-between : (p x y z : ℤ) → In P p → Holds Q x y z → Between P Q (squareOf (p -ℤ x) (x -ℤ y) (x -ℤ z))
+  face-between p x y z h k =
+      let l = p ∷ x ∷ y ∷ z ∷ [] in
+      let a = var 0 :- var 1 in
+      let b = var 1 :- var 2 in
+      let c = var 1 :- var 3 in
+      let o = num (pos 0) in
+      let e1 = ring l a (a :+ o :+ o) tt in
+      let e2 = ring l (var 0 :- var 3) (a :+ o :+ c) tt in
+      let e3 = ring l (var 0 :- var 2) (a :+ b :+ o) tt in
+      let e4 = ring l (var 0 :- (var 2 :+ var 3 :- var 1)) (a :+ b :+ c) tt in
+      record {
+        above = square-above (p -ℤ x) (x -ℤ y) (x -ℤ z) _ (apart-above _ h (k .one) e1) (apart-above _ h (k .three) e2) (apart-above _ h (k .two) e3) (apart-above _ h (k .four) e4);
+        below = square-below (p -ℤ x) (x -ℤ y) (x -ℤ z) _ (apart-below _ h (k .one) e1) (apart-below _ h (k .three) e2) (apart-below _ h (k .two) e3) (apart-below _ h (k .four) e4);
+      }
+
+  -- two edges, at a moment
+  pub edges-between : (p q r s : ℤ) → In P p → In P q → In Q r → In Q s → Between P Q (squareOf (p -ℤ r) (q -ℤ p) (r -ℤ s))
+  edges-between p q r s hp hq hr hs =
+      let l = p ∷ q ∷ r ∷ s ∷ [] in
+      let a = var 0 :- var 2 in
+      let b = var 1 :- var 0 in
+      let c = var 2 :- var 3 in
+      let o = num (pos 0) in
+      let e1 = ring l a (a :+ o :+ o) tt in
+      let e2 = ring l (var 0 :- var 3) (a :+ o :+ c) tt in
+      let e3 = ring l (var 1 :- var 2) (a :+ b :+ o) tt in
+      let e4 = ring l (var 1 :- var 3) (a :+ b :+ c) tt in
+      record {
+        above = square-above (p -ℤ r) (q -ℤ p) (r -ℤ s) _ (apart-above _ hp hr e1) (apart-above _ hp hs e2) (apart-above _ hq hr e3) (apart-above _ hq hs e4);
+        below = square-below (p -ℤ r) (q -ℤ p) (r -ℤ s) _ (apart-below _ hp hr e1) (apart-below _ hp hs e2) (apart-below _ hq hr e3) (apart-below _ hq hs e4);
+      }
+
+  both-between : (s t : Span) → Between P Q s → Between P Q t → Between P Q (joined s t)
+  both-between s t h k = record {
+    above = min-pick (λ (z : ℤ). (P .least -ℤ Q .greatest) ≤ℤ z) (s .least) (t .least) (h .above) (k .above);
+    below = max-pick (λ (z : ℤ). z ≤ℤ (P .greatest -ℤ Q .least)) (s .greatest) (t .greatest) (h .below) (k .below);
+  }
+
+-- further apart than d, on one side or the other
+pub data Further (P Q : Span) (d : ℕ) : Type 0 where
+  over : pos d <ℤ (P .least -ℤ Q .greatest) → Further P Q d
+  under : pos d <ℤ (Q .least -ℤ P .greatest) → Further P Q d
+
+pub misses : (P Q : Span) (K : Kernel) (d : ℕ) → Between P Q (cubeOf K) → Further P Q d → meets K wholeCube d ≡ false
+misses P Q K d h (over f) =
+    sym (meets-whole K d) ∙ ap (λ (b : Bool). b && leZ (negℤ (pos d)) (cubeOf K .greatest)) (lt-leZ (cubeOf K .least) (pos d) (omega (zed, h .above)))
+misses P Q K d h (under f) =
+    sym (meets-whole K d) ∙ ap (λ (b : Bool). leZ (cubeOf K .least) (pos d) && b) (lt-leZ (negℤ (pos d)) (cubeOf K .greatest) low) ∙ none (leZ (cubeOf K .least) (pos d))
+  where
+    low : cubeOf K .greatest <ℤ negℤ (pos d)
+    low = omega (zed, h .below, minus-view (P .greatest) (Q .least), minus-view (Q .least) (P .greatest), neg-up (pos d), neg-dn (pos d))
+
+    none : (b : Bool) → (b && false) ≡ false
+    none true = refl
+    none false = refl
+
+turned : {P Q : Span} {d : ℕ} → Further P Q d → Further Q P d
+turned (over f) = under f
+turned (under f) = over f
+
+-- ---- a triangle of a body on an axis
+
+-- a triangle on one axis as a kernel of its own, from the coordinate at a place: its cube is what it reaches over both moments
+abbrev pub triangleAt : List ℤ → List ℤ → ℕ → Kernel
+triangleAt s e at =
+    record {
+      a0 = getD s at (pos 0) -ℤ pos 0;
+      b0 = getD s (at + 3) (pos 0) -ℤ getD s at (pos 0);
+      c0 = getD s (at + 6) (pos 0) -ℤ getD s at (pos 0);
+      a1 = getD e at (pos 0) -ℤ pos 0;
+      b1 = getD e (at + 3) (pos 0) -ℤ getD e at (pos 0);
+      c1 = getD e (at + 6) (pos 0) -ℤ getD e at (pos 0);
+    }
+
+abbrev pub reachAt : List ℤ → List ℤ → ℕ → Span
+reachAt s e at = cubeOf (triangleAt s e at)
+
+first-is : (x : ℤ) → x -ℤ pos 0 ≡ x
+first-is x = ring (x ∷ []) (var 0 :- num (pos 0)) (var 0) tt
+
+start-holds : (s e : List ℤ) (at : ℕ) → Holds (reachAt s e at) (getD s at (pos 0)) (getD s (at + 3) (pos 0)) (getD s (at + 6) (pos 0))
+start-holds s e at =
+    holds-first (squareOf (triangleAt s e at .a0) (triangleAt s e at .b0) (triangleAt s e at .c0)) (squareOf (triangleAt s e at .a1) (triangleAt s e at .b1) (triangleAt s e at .c1))
+    (subst (λ (x : ℤ). Holds (squareOf x (triangleAt s e at .b0) (triangleAt s e at .c0)) (getD s at (pos 0)) (getD s (at + 3) (pos 0)) (getD s (at + 6) (pos 0))) (sym (first-is (getD s at (pos 0))))
+    (triangle-holds (getD s at (pos 0)) (getD s (at + 3) (pos 0)) (getD s (at + 6) (pos 0))))
+
+end-holds : (s e : List ℤ) (at : ℕ) → Holds (reachAt s e at) (getD e at (pos 0)) (getD e (at + 3) (pos 0)) (getD e (at + 6) (pos 0))
+end-holds s e at =
+    holds-second (squareOf (triangleAt s e at .a0) (triangleAt s e at .b0) (triangleAt s e at .c0)) (squareOf (triangleAt s e at .a1) (triangleAt s e at .b1) (triangleAt s e at .c1))
+    (subst (λ (x : ℤ). Holds (squareOf x (triangleAt s e at .b1) (triangleAt s e at .c1)) (getD e at (pos 0)) (getD e (at + 3) (pos 0)) (getD e (at + 6) (pos 0))) (sym (first-is (getD e at (pos 0))))
+    (triangle-holds (getD e at (pos 0)) (getD e (at + 3) (pos 0)) (getD e (at + 6) (pos 0))))
+
+-- what the test on an axis relies on
+pub record OnAxis (a0 a1 : List ℤ) (a : ℕ) (b0 b1 : List ℤ) (b d : ℕ) : Type 0 where
+  pub a-start : a + 7 ≤ length a0
+  pub a-end : a + 7 ≤ length a1
+  pub b-start : b + 7 ≤ length b0
+  pub b-end : b + 7 ≤ length b1
+  pub a-small : Small (triangleAt a0 a1 a)
+  pub b-small : Small (triangleAt b0 b1 b)
+  pub most : d ≤ 65_536
+
+abbrev pub separationIn : Terms → Axis → ℕ
+separationIn w X = w .dx
+separationIn w Y = w .dy
+separationIn w Z = w .dz
+
+-- apart on some axis
+pub data Distant (w : Terms) (a0 a1 b0 b1 : List ℤ) (i j : ℕ) : Type 0 where
+  distant : (axis : Axis) → Further (reachAt a0 a1 (9 * i + place axis)) (reachAt b0 b1 (9 * j + place axis)) (separationIn w axis) → Distant w a0 a1 b0 b1 i j
+
+-- ---- the fifteen queries
+
+-- where a corner's coordinate on an axis stands
+abbrev off : Axis → ℕ → ℕ
+off X at = at
+off Y at = at + 1
+off Z at = at + 2
+
+module _ (w : Terms) (a0 a1 b0 b1 : List ℤ) (i j : ℕ) (axis : Axis) where
+  abbrev ask : Ask → Record
+  ask k = askOf w (positions a0 a1) (positions b0 b1) i j k
+
+  abbrev S : ℕ → ℤ
+  S n = getD (cond (ltb n 3) a0 b0) (off axis (cornerPlace i j n)) (pos 0)
+
+  abbrev E : ℕ → ℤ
+  E n = getD (cond (ltb n 3) a1 b1) (off axis (cornerPlace i j n)) (pos 0)
+
+  abbrev A : Span
+  A = reachAt a0 a1 (9 * i + place axis)
+
+  abbrev B : Span
+  B = reachAt b0 b1 (9 * j + place axis)
+
+  -- the corners are within the triangles' spans
+  pub record Corners : Type 0 where
+    pub a-start : Holds A (S 0) (S 1) (S 2)
+    pub a-end : Holds A (E 0) (E 1) (E 2)
+    pub b-start : Holds B (S 3) (S 4) (S 5)
+    pub b-end : Holds B (E 3) (E 4) (E 5)
+
+face-kernel : (w : Terms) (a0 a1 b0 b1 : List ℤ) (i j : ℕ) (axis : Axis) (p q r s : ℕ)
+    → axisOf (ask w a0 a1 b0 b1 i j axis (face p q r s)) axis
+    ≡ record {
+      a0 = S w a0 a1 b0 b1 i j axis p -ℤ S w a0 a1 b0 b1 i j axis q;
+      b0 = S w a0 a1 b0 b1 i j axis q -ℤ S w a0 a1 b0 b1 i j axis r;
+      c0 = S w a0 a1 b0 b1 i j axis q -ℤ S w a0 a1 b0 b1 i j axis s;
+      a1 = E w a0 a1 b0 b1 i j axis p -ℤ E w a0 a1 b0 b1 i j axis q;
+      b1 = E w a0 a1 b0 b1 i j axis q -ℤ E w a0 a1 b0 b1 i j axis r;
+      c1 = E w a0 a1 b0 b1 i j axis q -ℤ E w a0 a1 b0 b1 i j axis s;
+    }
+unfolding askOf
+face-kernel w a0 a1 b0 b1 i j X p q r s = refl
+face-kernel w a0 a1 b0 b1 i j Y p q r s = refl
+face-kernel w a0 a1 b0 b1 i j Z p q r s = refl
+
+edges-kernel : (w : Terms) (a0 a1 b0 b1 : List ℤ) (i j : ℕ) (axis : Axis) (p q r s : ℕ)
+    → axisOf (ask w a0 a1 b0 b1 i j axis (edges p q r s)) axis
+    ≡ record {
+      a0 = S w a0 a1 b0 b1 i j axis p -ℤ S w a0 a1 b0 b1 i j axis r;
+      b0 = S w a0 a1 b0 b1 i j axis q -ℤ S w a0 a1 b0 b1 i j axis p;
+      c0 = S w a0 a1 b0 b1 i j axis r -ℤ S w a0 a1 b0 b1 i j axis s;
+      a1 = E w a0 a1 b0 b1 i j axis p -ℤ E w a0 a1 b0 b1 i j axis r;
+      b1 = E w a0 a1 b0 b1 i j axis q -ℤ E w a0 a1 b0 b1 i j axis p;
+      c1 = E w a0 a1 b0 b1 i j axis r -ℤ E w a0 a1 b0 b1 i j axis s;
+    }
+unfolding askOf
+edges-kernel w a0 a1 b0 b1 i j X p q r s = refl
+edges-kernel w a0 a1 b0 b1 i j Y p q r s = refl
+edges-kernel w a0 a1 b0 b1 i j Z p q r s = refl
+
+module _ (w : Terms) (a0 a1 b0 b1 : List ℤ) (i j : ℕ) (axis : Axis) (h : Corners w a0 a1 b0 b1 i j axis) (d : ℕ) where
+  abbrev St : ℕ → ℤ
+  St = S w a0 a1 b0 b1 i j axis
+
+  abbrev En : ℕ → ℤ
+  En = E w a0 a1 b0 b1 i j axis
+
+  abbrev SA : Span
+  SA = A w a0 a1 b0 b1 i j axis
+
+  abbrev SB : Span
+  SB = B w a0 a1 b0 b1 i j axis
+
+  abbrev Misses : Ask → Type 0
+  Misses k = meets (axisOf (ask w a0 a1 b0 b1 i j axis k) axis) wholeCube d ≡ false
+
+  face-misses : (P Q : Span) (p q r s : ℕ) → In P (St p) → In P (En p) → Holds Q (St q) (St r) (St s) → Holds Q (En q) (En r) (En s) → Further P Q d → Misses (face p q r s)
+  face-misses P Q p q r s f g hs he far =
+      ap (λ (K : Kernel). meets K wholeCube d) (face-kernel w a0 a1 b0 b1 i j axis p q r s)
+      ∙ misses P Q _ d
+      (both-between P Q (squareOf (St p -ℤ St q) (St q -ℤ St r) (St q -ℤ St s)) (squareOf (En p -ℤ En q) (En q -ℤ En r) (En q -ℤ En s))
+      (face-between P Q (St p) (St q) (St r) (St s) f hs) (face-between P Q (En p) (En q) (En r) (En s) g he)) far
+
+  edges-miss : (p q r s : ℕ) → In SA (St p) → In SA (St q) → In SB (St r) → In SB (St s) → In SA (En p) → In SA (En q) → In SB (En r) → In SB (En s) → Further SA SB d → Misses (edges p q r s)
+  edges-miss p q r s f1 f2 f3 f4 g1 g2 g3 g4 far =
+      ap (λ (K : Kernel). meets K wholeCube d) (edges-kernel w a0 a1 b0 b1 i j axis p q r s)
+      ∙ misses SA SB _ d
+      (both-between SA SB (squareOf (St p -ℤ St r) (St q -ℤ St p) (St r -ℤ St s)) (squareOf (En p -ℤ En r) (En q -ℤ En p) (En r -ℤ En s))
+      (edges-between SA SB (St p) (St q) (St r) (St s) f1 f2 f3 f4) (edges-between SA SB (En p) (En q) (En r) (En s) g1 g2 g3 g4)) far
+
+  abbrev sa : Holds SA (St 0) (St 1) (St 2)
+  sa = h .a-start
+
+  abbrev ea : Holds SA (En 0) (En 1) (En 2)
+  ea = h .a-end
+
+  abbrev sb : Holds SB (St 3) (St 4) (St 5)
+  sb = h .b-start
+
+  abbrev eb : Holds SB (En 3) (En 4) (En 5)
+  eb = h .b-end
+
+  pub all-miss : Further SA SB d → (k : ℕ) → k < 15 → Misses (askAt k)
+  all-miss f zero l = face-misses SA SB 0 3 4 5 (sa .one) (ea .one) sb eb f
+  all-miss f (suc zero) l = face-misses SA SB 1 3 4 5 (sa .two) (ea .two) sb eb f
+  all-miss f (suc (suc zero)) l = face-misses SA SB 2 3 4 5 (sa .three) (ea .three) sb eb f
+  all-miss f (suc (suc (suc zero))) l = face-misses SB SA 3 0 1 2 (sb .one) (eb .one) sa ea (turned f)
+  all-miss f (suc (suc (suc (suc zero)))) l = face-misses SB SA 4 0 1 2 (sb .two) (eb .two) sa ea (turned f)
+  all-miss f (suc (suc (suc (suc (suc zero))))) l = face-misses SB SA 5 0 1 2 (sb .three) (eb .three) sa ea (turned f)
+  all-miss f (suc (suc (suc (suc (suc (suc zero)))))) l = edges-miss 0 1 3 4 (sa .one) (sa .two) (sb .one) (sb .two) (ea .one) (ea .two) (eb .one) (eb .two) f
+  all-miss f (suc (suc (suc (suc (suc (suc (suc zero))))))) l = edges-miss 0 1 4 5 (sa .one) (sa .two) (sb .two) (sb .three) (ea .one) (ea .two) (eb .two) (eb .three) f
+  all-miss f (suc (suc (suc (suc (suc (suc (suc (suc zero)))))))) l = edges-miss 0 1 5 3 (sa .one) (sa .two) (sb .three) (sb .one) (ea .one) (ea .two) (eb .three) (eb .one) f
+  all-miss f (suc (suc (suc (suc (suc (suc (suc (suc (suc zero))))))))) l = edges-miss 1 2 3 4 (sa .two) (sa .three) (sb .one) (sb .two) (ea .two) (ea .three) (eb .one) (eb .two) f
+  all-miss f (suc (suc (suc (suc (suc (suc (suc (suc (suc (suc zero)))))))))) l = edges-miss 1 2 4 5 (sa .two) (sa .three) (sb .two) (sb .three) (ea .two) (ea .three) (eb .two) (eb .three) f
+  all-miss f (suc (suc (suc (suc (suc (suc (suc (suc (suc (suc (suc zero))))))))))) l = edges-miss 1 2 5 3 (sa .two) (sa .three) (sb .three) (sb .one) (ea .two) (ea .three) (eb .three) (eb .one) f
+  all-miss f (suc (suc (suc (suc (suc (suc (suc (suc (suc (suc (suc (suc zero)))))))))))) l = edges-miss 2 0 3 4 (sa .three) (sa .one) (sb .one) (sb .two) (ea .three) (ea .one) (eb .one) (eb .two) f
+  all-miss f (suc (suc (suc (suc (suc (suc (suc (suc (suc (suc (suc (suc (suc zero))))))))))))) l = edges-miss 2 0 4 5 (sa .three) (sa .one) (sb .two) (sb .three) (ea .three) (ea .one) (eb .two) (eb .three) f
+  all-miss f (suc (suc (suc (suc (suc (suc (suc (suc (suc (suc (suc (suc (suc (suc zero)))))))))))))) l = edges-miss 2 0 5 3 (sa .three) (sa .one) (sb .three) (sb .one) (ea .three) (ea .one) (eb .three) (eb .one) f
+  all-miss f (suc (suc (suc (suc (suc (suc (suc (suc (suc (suc (suc (suc (suc (suc (suc k))))))))))))))) l = absurd (omega arith)
+
+-- ---- the corners of a pair are within what their triangles reach
+
+holds-same : (s : Span) (x y z x′ y′ z′ : ℤ) → x ≡ x′ → y ≡ y′ → z ≡ z′ → Holds s x y z → Holds s x′ y′ z′
+holds-same s x y z x′ y′ z′ e f g h =
+    subst (λ (v : ℤ). Holds s v y′ z′) e (subst (λ (v : ℤ). Holds s x v z′) f (subst (λ (v : ℤ). Holds s x y v) g h))
+
+-- a corner's place, from the first coordinate's
+at-corner : (axis : Axis) (m n : ℕ) → 9 * m + place axis + 3 * n ≡ off axis (9 * m + 3 * n)
+at-corner X m n = omega arith
+at-corner Y m n = omega arith
+at-corner Z m n = omega arith
+
+same-at : (axis : Axis) (l : List ℤ) (m n x : ℕ) → x ≡ 9 * m + place axis + 3 * n → getD l x (pos 0) ≡ getD l (off axis (9 * m + 3 * n)) (pos 0)
+same-at axis l m n x e = ap (λ (y : ℕ). getD l y (pos 0)) (e ∙ at-corner axis m n)
+
+moved : (axis : Axis) (l : List ℤ) (m : ℕ) (s : Span) → Holds s (getD l (9 * m + place axis) (pos 0)) (getD l (9 * m + place axis + 3) (pos 0)) (getD l (9 * m + place axis + 6) (pos 0))
+    → Holds s (getD l (off axis (9 * m + 3 * 0)) (pos 0)) (getD l (off axis (9 * m + 3 * 1)) (pos 0)) (getD l (off axis (9 * m + 3 * 2)) (pos 0))
+moved axis l m s h = holds-same s _ _ _ _ _ _ (same-at axis l m 0 _ (omega arith)) (same-at axis l m 1 _ (omega arith)) (same-at axis l m 2 _ (omega arith)) h
+
+pub corners : (w : Terms) (a0 a1 b0 b1 : List ℤ) (i j : ℕ) (axis : Axis) → Corners w a0 a1 b0 b1 i j axis
+corners w a0 a1 b0 b1 i j axis =
+    record {
+      a-start = moved axis a0 i (reachAt a0 a1 (9 * i + place axis)) (start-holds a0 a1 (9 * i + place axis));
+      a-end = moved axis a1 i (reachAt a0 a1 (9 * i + place axis)) (end-holds a0 a1 (9 * i + place axis));
+      b-start = moved axis b0 j (reachAt b0 b1 (9 * j + place axis)) (start-holds b0 b1 (9 * j + place axis));
+      b-end = moved axis b1 j (reachAt b0 b1 (9 * j + place axis)) (end-holds b0 b1 (9 * j + place axis));
+    }
+
+-- ---- all are clear
+
+-- each of a list of queries
+abbrev Each : (Ask → Type 0) → List Ask → Type 0
+Each P [] = Unit
+Each P (k ∷ ks) = P k × Each P ks
+
+search-clear : (r : Record) (words : ℕ) → searchRefusal r words ≡ 0 → survives (query r words) origin origin ≡ false → search r words ≡ Clear 1
+unfolding search unless run levels check oneBox afterLevel
+search-clear r words e f = let b : eqb 0 (r .budget) ≡ false = ne-eqb 0 (r .budget) (omega (arith, accepted-search r words e .query .budget-least)) in rw (e, b, f)
+
+module _ (w : Terms) (a0 a1 b0 b1 : List ℤ) (i j words : ℕ) where
+  one-clear : (axis : Axis) (k : Ask) → Misses w a0 a1 b0 b1 i j axis (corners w a0 a1 b0 b1 i j axis) (separationIn w axis) k → searchRefusal (ask w a0 a1 b0 b1 i j axis k) words ≡ 0
+      → search (ask w a0 a1 b0 b1 i j axis k) words ≡ Clear 1
+  unfolding askOf
+  one-clear X k m e = search-clear (ask w a0 a1 b0 b1 i j X k) words e (misses-any (ask w a0 a1 b0 b1 i j X k) words X m)
+  one-clear Y k m e = search-clear (ask w a0 a1 b0 b1 i j Y k) words e (misses-any (ask w a0 a1 b0 b1 i j Y k) words Y m)
+  one-clear Z k m e = search-clear (ask w a0 a1 b0 b1 i j Z k) words e (misses-any (ask w a0 a1 b0 b1 i j Z k) words Z m)
+
+  each-clear : (axis : Axis) (n : ℕ) (ks : List Ask) → Each (Misses w a0 a1 b0 b1 i j axis (corners w a0 a1 b0 b1 i j axis) (separationIn w axis)) ks
+      → All (λ q. searchRefusal (q .ask) words ≡ 0) (askedFrom w (positions a0 a1) (positions b0 b1) i j n ks)
+      → All (λ q. search (q .ask) words ≡ Clear 1) (askedFrom w (positions a0 a1) (positions b0 b1) i j n ks)
+  unfolding All askedFrom
+  each-clear axis n [] m h = tt
+  each-clear axis n (k ∷ ks) m h = (one-clear axis k (m .0) (h .0), each-clear axis (n + 1) ks (m .1) (h .1))
+
+  pub pair-clear : (axis : Axis) → Further (reachAt a0 a1 (9 * i + place axis)) (reachAt b0 b1 (9 * j + place axis)) (separationIn w axis)
+      → All (λ q. searchRefusal (q .ask) words ≡ 0) (pairQueries w (positions a0 a1) (positions b0 b1) i j)
+      → All (λ q. search (q .ask) words ≡ Clear 1) (pairQueries w (positions a0 a1) (positions b0 b1) i j)
+  pair-clear axis f h =
+      let m = all-miss w a0 a1 b0 b1 i j axis (corners w a0 a1 b0 b1 i j axis) (separationIn w axis) f in
+      each-clear axis 1 fifteen
+      (m 0 (lit< tt), (m 1 (lit< tt), (m 2 (lit< tt), (m 3 (lit< tt), (m 4 (lit< tt), (m 5 (lit< tt), (m 6 (lit< tt), (m 7 (lit< tt), (m 8 (lit< tt), (m 9 (lit< tt), (m 10 (lit< tt), (m 11 (lit< tt), (m 12 (lit< tt), (m 13 (lit< tt), (m 14 (lit< tt), tt)))))))))))))))
+      h
+
+  -- ---- the spans are small
+
+  p-start : (axis : Axis) (k : Ask) → searchRefusal (ask w a0 a1 b0 b1 i j axis k) words ≡ 0 → Within 1_048_576 (S w a0 a1 b0 b1 i j axis (k .p))
+  unfolding askOf
+  p-start X k e = record { most = accepted-search (ask w a0 a1 b0 b1 i j X k) words e .query .coordinate 0 }
+  p-start Y k e = record { most = accepted-search (ask w a0 a1 b0 b1 i j Y k) words e .query .coordinate 1 }
+  p-start Z k e = record { most = accepted-search (ask w a0 a1 b0 b1 i j Z k) words e .query .coordinate 2 }
+
+  p-end : (axis : Axis) (k : Ask) → searchRefusal (ask w a0 a1 b0 b1 i j axis k) words ≡ 0 → Within 1_048_576 (E w a0 a1 b0 b1 i j axis (k .p))
+  unfolding askOf
+  p-end X k e = record { most = accepted-search (ask w a0 a1 b0 b1 i j X k) words e .query .coordinate 12 }
+  p-end Y k e = record { most = accepted-search (ask w a0 a1 b0 b1 i j Y k) words e .query .coordinate 13 }
+  p-end Z k e = record { most = accepted-search (ask w a0 a1 b0 b1 i j Z k) words e .query .coordinate 14 }
+
+  q-start : (axis : Axis) (k : Ask) → searchRefusal (ask w a0 a1 b0 b1 i j axis k) words ≡ 0 → Within 1_048_576 (S w a0 a1 b0 b1 i j axis (k .q))
+  unfolding askOf
+  q-start X k e = record { most = accepted-search (ask w a0 a1 b0 b1 i j X k) words e .query .coordinate 3 }
+  q-start Y k e = record { most = accepted-search (ask w a0 a1 b0 b1 i j Y k) words e .query .coordinate 4 }
+  q-start Z k e = record { most = accepted-search (ask w a0 a1 b0 b1 i j Z k) words e .query .coordinate 5 }
+
+  q-end : (axis : Axis) (k : Ask) → searchRefusal (ask w a0 a1 b0 b1 i j axis k) words ≡ 0 → Within 1_048_576 (E w a0 a1 b0 b1 i j axis (k .q))
+  unfolding askOf
+  q-end X k e = record { most = accepted-search (ask w a0 a1 b0 b1 i j X k) words e .query .coordinate 15 }
+  q-end Y k e = record { most = accepted-search (ask w a0 a1 b0 b1 i j Y k) words e .query .coordinate 16 }
+  q-end Z k e = record { most = accepted-search (ask w a0 a1 b0 b1 i j Z k) words e .query .coordinate 17 }
+
+  r-start : (axis : Axis) (k : Ask) → searchRefusal (ask w a0 a1 b0 b1 i j axis k) words ≡ 0 → Within 1_048_576 (S w a0 a1 b0 b1 i j axis (k .r))
+  unfolding askOf
+  r-start X k e = record { most = accepted-search (ask w a0 a1 b0 b1 i j X k) words e .query .coordinate 6 }
+  r-start Y k e = record { most = accepted-search (ask w a0 a1 b0 b1 i j Y k) words e .query .coordinate 7 }
+  r-start Z k e = record { most = accepted-search (ask w a0 a1 b0 b1 i j Z k) words e .query .coordinate 8 }
+
+  r-end : (axis : Axis) (k : Ask) → searchRefusal (ask w a0 a1 b0 b1 i j axis k) words ≡ 0 → Within 1_048_576 (E w a0 a1 b0 b1 i j axis (k .r))
+  unfolding askOf
+  r-end X k e = record { most = accepted-search (ask w a0 a1 b0 b1 i j X k) words e .query .coordinate 18 }
+  r-end Y k e = record { most = accepted-search (ask w a0 a1 b0 b1 i j Y k) words e .query .coordinate 19 }
+  r-end Z k e = record { most = accepted-search (ask w a0 a1 b0 b1 i j Z k) words e .query .coordinate 20 }
+
+  s-start : (axis : Axis) (k : Ask) → searchRefusal (ask w a0 a1 b0 b1 i j axis k) words ≡ 0 → Within 1_048_576 (S w a0 a1 b0 b1 i j axis (k .s))
+  unfolding askOf
+  s-start X k e = record { most = accepted-search (ask w a0 a1 b0 b1 i j X k) words e .query .coordinate 9 }
+  s-start Y k e = record { most = accepted-search (ask w a0 a1 b0 b1 i j Y k) words e .query .coordinate 10 }
+  s-start Z k e = record { most = accepted-search (ask w a0 a1 b0 b1 i j Z k) words e .query .coordinate 11 }
+
+  s-end : (axis : Axis) (k : Ask) → searchRefusal (ask w a0 a1 b0 b1 i j axis k) words ≡ 0 → Within 1_048_576 (E w a0 a1 b0 b1 i j axis (k .s))
+  unfolding askOf
+  s-end X k e = record { most = accepted-search (ask w a0 a1 b0 b1 i j X k) words e .query .coordinate 21 }
+  s-end Y k e = record { most = accepted-search (ask w a0 a1 b0 b1 i j Y k) words e .query .coordinate 22 }
+  s-end Z k e = record { most = accepted-search (ask w a0 a1 b0 b1 i j Z k) words e .query .coordinate 23 }
+
+  near-kernel : (s e : List ℤ) (at : ℕ) → Within 1_048_576 (getD s at (pos 0)) → Within 1_048_576 (getD s (at + 3) (pos 0)) → Within 1_048_576 (getD s (at + 6) (pos 0))
+      → Within 1_048_576 (getD e at (pos 0)) → Within 1_048_576 (getD e (at + 3) (pos 0)) → Within 1_048_576 (getD e (at + 6) (pos 0)) → Small (triangleAt s e at)
+  near-kernel s e at x y z x′ y′ z′ =
+      record {
+        a0 = within-more (lit≤ tt) (within-sub x (within-pos 0));
+        b0 = within-sub y x;
+        c0 = within-sub z x;
+        a1 = within-more (lit≤ tt) (within-sub x′ (within-pos 0));
+        b1 = within-sub y′ x′;
+        c1 = within-sub z′ x′;
+      }
+
+  back : (axis : Axis) (l : List ℤ) (m n x : ℕ) → x ≡ 9 * m + place axis + 3 * n → Within 1_048_576 (getD l (off axis (9 * m + 3 * n)) (pos 0)) → Within 1_048_576 (getD l x (pos 0))
+  back axis l m n x e h = subst (Within 1_048_576) (sym (same-at axis l m n x e)) h
+
+  module _ (none : All (λ q. searchRefusal (q .ask) words ≡ 0) (pairQueries w (positions a0 a1) (positions b0 b1) i j)) where
+    pub small-a : (axis : Axis) → Small (triangleAt a0 a1 (9 * i + place axis))
+    unfolding All askedFrom
+    small-a axis =
+        near-kernel a0 a1 (9 * i + place axis)
+        (back axis a0 i 0 _ (omega arith) (p-start axis (face 0 3 4 5) (none .0)))
+        (back axis a0 i 1 _ (omega arith) (p-start axis (face 1 3 4 5) (none .1 .0)))
+        (back axis a0 i 2 _ (omega arith) (p-start axis (face 2 3 4 5) (none .1 .1 .0)))
+        (back axis a1 i 0 _ (omega arith) (p-end axis (face 0 3 4 5) (none .0)))
+        (back axis a1 i 1 _ (omega arith) (p-end axis (face 1 3 4 5) (none .1 .0)))
+        (back axis a1 i 2 _ (omega arith) (p-end axis (face 2 3 4 5) (none .1 .1 .0)))
+
+    pub small-b : (axis : Axis) → Small (triangleAt b0 b1 (9 * j + place axis))
+    unfolding All askedFrom
+    small-b axis =
+        near-kernel b0 b1 (9 * j + place axis)
+        (back axis b0 j 0 _ (omega arith) (q-start axis (face 0 3 4 5) (none .0)))
+        (back axis b0 j 1 _ (omega arith) (r-start axis (face 0 3 4 5) (none .0)))
+        (back axis b0 j 2 _ (omega arith) (s-start axis (face 0 3 4 5) (none .0)))
+        (back axis b1 j 0 _ (omega arith) (q-end axis (face 0 3 4 5) (none .0)))
+        (back axis b1 j 1 _ (omega arith) (r-end axis (face 0 3 4 5) (none .0)))
+        (back axis b1 j 2 _ (omega arith) (s-end axis (face 0 3 4 5) (none .0)))
+
+    pub separations : (axis : Axis) → separationIn w axis ≤ 65_536
+    unfolding All askedFrom askOf
+    separations X = accepted-search (ask w a0 a1 b0 b1 i j X (face 0 3 4 5)) words (none .0) .query .dx
+    separations Y = accepted-search (ask w a0 a1 b0 b1 i j Y (face 0 3 4 5)) words (none .0) .query .dy
+    separations Z = accepted-search (ask w a0 a1 b0 b1 i j Z (face 0 3 4 5)) words (none .0) .query .dz
+
+-- ---- and heard
+
+counted-none : (a : BodyAnswer) → counted 0 a ≡ a
+unfolding counted
+counted-none (BodyClear sum) = let e : sum + 0 ≡ sum = omega arith in ap BodyClear e
+counted-none (Least t a b query word excess sum) = let e : sum + 0 ≡ sum = omega arith in ap (Least t a b query word excess) e
+counted-none (Refused n) = refl
+
+counted-more : (n : ℕ) (a : BodyAnswer) → counted n (counted 1 a) ≡ counted (suc n) a
+unfolding counted
+counted-more n (BodyClear sum) = let e : sum + 1 + n ≡ sum + suc n = omega arith in ap BodyClear e
+counted-more n (Least t a b query word excess sum) = let e : sum + 1 + n ≡ sum + suc n = omega arith in ap (Least t a b query word excess) e
+counted-more n (Refused number) = refl
+
+pub counted-sum : (n : ℕ) (a : BodyAnswer) → sumOf (counted n a) ≤ sumOf a + n
+unfolding counted sumOf
+counted-sum n (BodyClear sum) = omega arith
+counted-sum n (Least t a b query word excess sum) = omega arith
+counted-sum n (Refused number) = omega arith
+
+heard-clear : (sofar : BodyAnswer) (q : Asked) → heard sofar q (told (Clear 1)) ≡ counted 1 sofar
+unfolding heard
+heard-clear sofar q = refl
+
+pub hear-clear : (words : ℕ) (sofar : BodyAnswer) (qs : List Asked) → All (λ q. search (q .ask) words ≡ Clear 1) qs → hearAll words sofar qs ≡ counted (length qs) sofar
+unfolding All hearAll
+hear-clear words sofar [] h = sym (counted-none sofar)
+hear-clear words sofar (q ∷ qs) h =
+    ap (λ (a : Answer). hearAll words (heard sofar q (told a)) qs) (h .0)
+    ∙ ap (λ (x : BodyAnswer). hearAll words x qs) (heard-clear sofar q)
+    ∙ hear-clear words (counted 1 sofar) qs (h .1)
+    ∙ counted-more (length qs) sofar
+
+pub pair-heard : (w : Terms) (a0 a1 b0 b1 : List ℤ) (i j words : ℕ) (sofar : BodyAnswer) → Distant w a0 a1 b0 b1 i j
+    → All (λ q. searchRefusal (q .ask) words ≡ 0) (pairQueries w (positions a0 a1) (positions b0 b1) i j)
+    → counted 15 sofar ≡ hearAll words sofar (pairQueries w (positions a0 a1) (positions b0 b1) i j)
+unfolding askedFrom
+pair-heard w a0 a1 b0 b1 i j words sofar (distant axis f) h = sym (hear-clear words sofar (pairQueries w (positions a0 a1) (positions b0 b1) i j) (pair-clear w a0 a1 b0 b1 i j words axis f h))

@@ -1,0 +1,28 @@
+-- `gap::slab::slab_at` meets its contract.
+use borrow.Author.Needs.{needs}
+use lib.Pow.{pow-pos}
+use Rattle.gap.specs.Slab.{slab-is}
+use Rattle.gap.proofs.slab.slab_at.Statement.{statement}
+use Rattle.gap.proofs.slab.slab_at.Tie as tie
+
+cell-of-requires : tie.Need-cell-of-requires
+cell-of-requires c κs = (c .pre .1 .0, record { t = c .pre .1 .1; u = pow-pos _; v = pow-pos _ })
+
+strip-of-requires : tie.Need-strip-of-requires
+strip-of-requires c κs = search needs
+
+strip-of-requires-2 : tie.Need-strip-of-requires-2
+strip-of-requires-2 c κs = search needs
+
+strip-of-requires-3 : tie.Need-strip-of-requires-3
+strip-of-requires-3 c κs = search needs
+
+returns : tie.Need-returns
+returns c =
+    let s = c .before .before .before .before in
+    slab-is (s .args .p) (s .args .k) (s .args .t) (c .before .before .before .cell-of .ensures .is) (c .before .before .strip-of .ensures) (c .before .strip-of2 .ensures) (c .strip-of3 .ensures)
+
+pub slab-at-spec : {M : Type 1} → statement M
+slab-at-spec =
+    tie.close
+    (tie.spec cell-of-requires strip-of-requires strip-of-requires-2 strip-of-requires-3 returns)
