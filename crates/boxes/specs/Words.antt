@@ -1,13 +1,16 @@
 -- Laws of words: what is packed is read back, and the order of words is the order of boxes.
 use mathlib.Core.Path.{_≡_, refl, sym, ap, _∙_}
 use mathlib.Core.Bool.{Bool, true, false, _&&_, _||_}
-use Prim.Native.Nat.{ℕ, _^_, _<_}
+use Prim.Native.Nat.{ℕ, _+_, _^_, _≤_, _<_}
 use native.Mathlib.Omega.{arith}
 use lib.Dec.{leb, ltb, eqb}
 use borrow.Author.Tests.{ltb-true, ltb-false, eqb-true, eqb-false, leb-true, leb-false, le-leb, lt-leb}
+use lib.Bits.{bitAnd, and-mask, and-high}
 use Rattle.rules.specs.Search.{Box, stored, notAfter}
 use Rattle.rules.specs.declared.Three.{Three}
-use Rattle.boxes.specs.Boxes.{boxOf, Fits}
+use Rattle.rules.specs.declared.Parameter.{Parameter}
+use Rattle.rules.specs.declared.Parameter.the-variants.{InT, InU, InV}
+use Rattle.boxes.specs.Boxes.{boxOf, Fits, halfOf, indexBits, indexOne}
 
 -- a box is its three indices
 three : (a b : Three) → a .t ≡ b .t → a .u ≡ b .u → a .v ≡ b .v → a ≡ b
@@ -24,6 +27,22 @@ pack-unpack w h = omega arith
 -- what is read from a word fits one
 pub fits-word : (w : ℕ) → Fits (boxOf w)
 fits-word w = record { t = omega arith; u = omega arith; v = omega arith }
+
+-- a half by arithmetic on the word: the index and itself, in its own bits
+pub twice : (p : Parameter) (w : ℕ) → w < 2 ^ 60 → w + bitAnd w (indexBits p) ≡ stored (halfOf p false (boxOf w))
+twice InT w h = rw (and-high w 20 40) (omega arith)
+twice InU w h = rw (and-high w 20 20) (omega arith)
+twice InV w h = rw (and-mask w 20) (omega arith)
+
+pub twice-and-one : (p : Parameter) (w : ℕ) → w < 2 ^ 60 → w + bitAnd w (indexBits p) + indexOne p ≡ stored (halfOf p true (boxOf w))
+twice-and-one InT w h = rw (and-high w 20 40) (omega arith)
+twice-and-one InU w h = rw (and-high w 20 20) (omega arith)
+twice-and-one InV w h = rw (and-mask w 20) (omega arith)
+
+pub one-most : (p : Parameter) → indexOne p ≤ 2 ^ 40
+one-most InT = omega arith
+one-most InU = omega arith
+one-most InV = omega arith
 
 -- the order of words is the order of boxes
 module _ (a b : Box) (f : Fits a) (g : Fits b) where

@@ -1,7 +1,8 @@
 // A stored box as one word: t index in bits 40 to 59, u in bits 20 to 39, v in bits 0 to 19.
 ghost use mathlib.Core.Path.{_≡_};
-ghost use Rattle.rules.specs.Search.{stored, lowHalf, highHalf};
-ghost use Rattle.boxes.specs.Boxes.{boxOf, Fits};
+ghost use Prim.Native.Nat.{_^_, _<_};
+ghost use Rattle.rules.specs.Search.{stored};
+ghost use Rattle.boxes.specs.Boxes.{boxOf, Fits, halfOf, indexBits, indexOne};
 use rules::Parameter;
 use rules::Three;
 
@@ -24,50 +25,33 @@ pub fn unpack(w: u64) -> Three
     }
 }
 
-// The half of a box with the lesser index in the parameter.
-pub fn low_half(p: Parameter, b: Three) -> Three
-    requires { ⌜ Fits b ⌝ }
-    ensures { λ r. ⌜ r ≡ lowHalf p b ⌝ }
+// The bits of a word that hold the index of a parameter.
+fn index_bits(p: Parameter) -> u64
+    ensures { λ r. ⌜ r ≡ indexBits p ⌝ }
 {
     match p {
-        Parameter::InT => Three {
-            t: 2 * b.t,
-            u: b.u,
-            v: b.v,
-        },
-        Parameter::InU => Three {
-            t: b.t,
-            u: 2 * b.u,
-            v: b.v,
-        },
-        Parameter::InV => Three {
-            t: b.t,
-            u: b.u,
-            v: 2 * b.v,
-        },
+        Parameter::InT => 0xFFFFF0000000000,
+        Parameter::InU => 0xFFFFF00000,
+        Parameter::InV => 0xFFFFF,
     }
 }
 
-// The half with the greater index.
-pub fn high_half(p: Parameter, b: Three) -> Three
-    requires { ⌜ Fits b ⌝ }
-    ensures { λ r. ⌜ r ≡ highHalf p b ⌝ }
+// One in that index.
+fn index_one(p: Parameter) -> u64
+    ensures { λ r. ⌜ r ≡ indexOne p ⌝ }
 {
     match p {
-        Parameter::InT => Three {
-            t: 2 * b.t + 1,
-            u: b.u,
-            v: b.v,
-        },
-        Parameter::InU => Three {
-            t: b.t,
-            u: 2 * b.u + 1,
-            v: b.v,
-        },
-        Parameter::InV => Three {
-            t: b.t,
-            u: b.u,
-            v: 2 * b.v + 1,
-        },
+        Parameter::InT => 0x10000000000,
+        Parameter::InU => 0x100000,
+        Parameter::InV => 1,
     }
+}
+
+// The word of a half: the index twice in its own bits, and one more for the high half.
+pub fn half(p: Parameter, high: bool, w: u64) -> u64
+    requires { ⌜ w < 2 ^ 60 ⌝ }
+    ensures { λ r. ⌜ r ≡ stored (halfOf p high (boxOf w)) ⌝ }
+{
+    let low = w + (w & index_bits(p));
+    if high { low + index_one(p) } else { low }
 }

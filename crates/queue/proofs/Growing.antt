@@ -11,11 +11,12 @@ use native.Mathlib.Numerals.{add-one}
 use Rattle.rules.specs.declared.Parameter.{Parameter}
 use Rattle.rules.specs.Search.{Query, Box, Depths, halves}
 use Rattle.boxes.specs.Boxes.{boxOf}
-use Rattle.queue.specs.declared.Pick.{Pick}
+use Rattle.queue.specs.declared.Half.{Half}
+use Rattle.queue.specs.declared.Taken.{Taken}
 use Rattle.queue.specs.declared.Next.the-variants.{Room, Level}
 use Rattle.queue.specs.All.{All, all-snoc}
 use Rattle.queue.specs.Walk.{put, same-after}
-use Rattle.queue.specs.Level.{OfLevel, halvesFrom, Picked, Placed, NextIs}
+use Rattle.queue.specs.Level.{OfLevel, halvesFrom, TakenIs, Placed, NextIs}
 use Rattle.queue.proofs.Merging.{none-left}
 
 -- what is written, and then the halves that are left, is the next level; the words below h and beyond the written ones are as they were
@@ -39,7 +40,7 @@ module _ (q : Query) (k : Depths) (p : Parameter) (n h : ℕ) (old : List ℕ) (
   short : length (take n old) ≡ n
   short = length-take-le n old (omega arith)
 
-  module _ (new : List ℕ) (i j m : ℕ) (w : Written q k p n h old new i j m) where
+  module _ (new : List ℕ) (low high : Half) (m : ℕ) (w : Written q k p n h old new (low .at) (high .at) m) where
     pub same-part : take n new ≡ take n old
     same-part = sym (take-take n h new fits) ∙ ap (λ (l : List ℕ). take n l) (w .source) ∙ take-take n h old fits
 
@@ -56,14 +57,17 @@ module _ (q : Query) (k : Depths) (p : Parameter) (n h : ℕ) (old : List ℕ) (
       beyond = w .beyond;
     }
 
-    module _ (r : Pick) (picked : Picked q k p (take n old) i j r) where
-      next : (b : Bool) → r .stays ≡ b → map boxOf (take m (drop h new)) ++ cond b (boxOf (r .word) ∷ halvesFrom q k p (take n old) (r .i) (r .j)) (halvesFrom q k p (take n old) (r .i) (r .j)) ≡ whole
-      next b e = rw (← e) (rw (picked .halves) at (w .done))
+    module _ (r : Taken) (taken : TakenIs q k p (take n old) n low high r) where
+      abbrev rest : List Box
+      rest = halvesFrom q k p (take n old) (r .low .at) (r .high .at)
 
-      pub written-pass : r .stays ≡ false → Written q k p n h old new (r .i) (r .j) m
+      next : (b : Bool) → r .stays ≡ b → map boxOf (take m (drop h new)) ++ cond b (boxOf (r .word) ∷ rest) (rest) ≡ whole
+      next b e = rw (← e) (rw (taken .halves) at (w .done))
+
+      pub written-pass : r .stays ≡ false → Written q k p n h old new (r .low .at) (r .high .at) m
       written-pass e = record {
-        i-le = rw short at (picked .i-le);
-        j-le = rw short at (picked .j-le);
+        i-le = taken .low-is .at-le;
+        j-le = taken .high-is .at-le;
         room = w .room;
         len = w .len;
         source = w .source;
@@ -72,28 +76,28 @@ module _ (q : Query) (k : Depths) (p : Parameter) (n h : ℕ) (old : List ℕ) (
         done = next false e;
       }
 
-      pub written-put : r .stays ≡ true → m < h → Written q k p n h old (set new (h + m) (r .word)) (r .i) (r .j) (m + 1)
+      pub written-put : r .stays ≡ true → m < h → Written q k p n h old (set new (h + m) (r .word)) (r .low .at) (r .high .at) (m + 1)
       written-put e l =
           let long : m < length (drop h new) = rw (length-drop h new) (omega (arith, w .len)) in
           record {
-            i-le = rw short at (picked .i-le);
-            j-le = rw short at (picked .j-le);
+            i-le = taken .low-is .at-le;
+            j-le = taken .high-is .at-le;
             room = omega arith;
             len = length-set new (h + m) (r .word) ∙ w .len;
             source = take-set-le h new (h + m) (r .word) (omega arith) ∙ w .source;
             beyond = rw (← add-assoc h m 1) (drop-set-lt (h + m + 1) new (h + m) (r .word) (omega arith) ∙ same-after (h + m) new old (w .beyond));
-            grid = rw (drop-set-add h new m (r .word), add-one m, take-suc-set (drop h new) m (r .word) long) (all-snoc (OfLevel k) (take m (drop h new)) (r .word) (w .grid) (picked .of-level));
+            grid = rw (drop-set-add h new m (r .word), add-one m, take-suc-set (drop h new) m (r .word) long) (all-snoc (OfLevel k) (take m (drop h new)) (r .word) (w .grid) (taken .of-level));
             done = rw (drop-set-add h new m (r .word)) (put m (drop h new) (r .word) _ long ∙ next true e);
           }
 
       -- a half that has no room is one too many
       pub no-room : r .stays ≡ true → m ≡ h → NextIs h k whole old new Room
-      no-room e l = (rw (← next true e) (omega (arith, length-part (boxOf (r .word)) (halvesFrom q k p (take n old) (r .i) (r .j)))), rw l at (first-placed (boxOf (r .word) ∷ halvesFrom q k p (take n old) (r .i) (r .j)) (next true e)))
+      no-room e l = (rw (← next true e) (omega (arith, length-part (boxOf (r .word)) (rest))), rw l at (first-placed (boxOf (r .word) ∷ rest) (next true e)))
 
-    pub all-placed : n + n ≤ i + j → NextIs h k whole old new (Level m)
+    pub all-placed : n + n ≤ low .at + high .at → NextIs h k whole old new (Level m)
     all-placed past = record {
       fits = w .room;
-      placed = sym (append-nil (map boxOf (take m (drop h new)))) ∙ rw (none-left q k p (take n old) i j (omega (arith, short, w .i-le, w .j-le)) (omega (arith, short, w .i-le, w .j-le))) at (w .done);
+      placed = sym (append-nil (map boxOf (take m (drop h new)))) ∙ rw (none-left q k p (take n old) (low .at) (high .at) (omega (arith, short, w .i-le, w .j-le)) (omega (arith, short, w .i-le, w .j-le))) at (w .done);
       grid = w .grid;
       beyond = w .beyond;
     }

@@ -8,7 +8,7 @@ use lib.ListN.{length, getD, drop, drop-of-length-le}
 use lib.Seq.{drop-cons}
 use Rattle.rules.specs.declared.Parameter.{Parameter}
 use Rattle.rules.specs.Search.{Query, Box, Depths, inside, those, merge, takeIn, notAfter}
-use Rattle.queue.specs.Level.{halvesFrom, lowAt, highAt}
+use Rattle.queue.specs.Level.{halvesFrom, halfAt}
 
 -- ---- of two lists of boxes, those that are such as one
 
@@ -57,21 +57,21 @@ module _ (q : Query) (k : Depths) (p : Parameter) (ws : List ℕ) where
   none-left i j hi hj = rw (ended i hi, ended j hj)
 
   module _ (i j : ℕ) where
-    pub step-last-high : length ws ≤ i → j < length ws → inside q k (highAt p ws j) ≡ true → from i j ≡ highAt p ws j ∷ from i (j + 1)
-    step-last-high hi hj e = rw (ended i hi, opened j hj) (only-high (inside q k) (highAt p ws j) (highAt p ws j) [] _ true e)
+    pub step-last-high : length ws ≤ i → j < length ws → inside q k (halfAt p true ws j) ≡ true → from i j ≡ halfAt p true ws j ∷ from i (j + 1)
+    step-last-high hi hj e = rw (ended i hi, opened j hj) (only-high (inside q k) (halfAt p true ws j) (halfAt p true ws j) [] _ true e)
 
-    pub step-pass-low : i < length ws → inside q k (lowAt p ws i) ≡ false → from i j ≡ from (i + 1) j
-    step-pass-low hi e = rw (opened i hi) (pass-low (inside q k) (lowAt p ws i) (lowAt p ws i) _ _ e)
+    pub step-pass-low : i < length ws → inside q k (halfAt p false ws i) ≡ false → from i j ≡ from (i + 1) j
+    step-pass-low hi e = rw (opened i hi) (pass-low (inside q k) (halfAt p false ws i) (halfAt p false ws i) _ _ e)
 
-    pub step-pass-high : j < length ws → inside q k (highAt p ws j) ≡ false → from i j ≡ from i (j + 1)
-    step-pass-high hj e = rw (opened j hj) (pass-high (inside q k) (highAt p ws j) (highAt p ws j) _ _ e)
+    pub step-pass-high : j < length ws → inside q k (halfAt p true ws j) ≡ false → from i j ≡ from i (j + 1)
+    step-pass-high hj e = rw (opened j hj) (pass-high (inside q k) (halfAt p true ws j) (halfAt p true ws j) _ _ e)
 
-    pub step-last-low : i < length ws → length ws ≤ j → inside q k (lowAt p ws i) ≡ true → from i j ≡ lowAt p ws i ∷ from (i + 1) j
-    step-last-low hi hj e = rw (ended j hj, opened i hi) (only-low (inside q k) (lowAt p ws i) (lowAt p ws i) _ [] e)
+    pub step-last-low : i < length ws → length ws ≤ j → inside q k (halfAt p false ws i) ≡ true → from i j ≡ halfAt p false ws i ∷ from (i + 1) j
+    step-last-low hi hj e = rw (ended j hj, opened i hi) (only-low (inside q k) (halfAt p false ws i) (halfAt p false ws i) _ [] e)
 
     module _ (hi : i < length ws) (hj : j < length ws) where
-      pub step-low : inside q k (lowAt p ws i) ≡ true → inside q k (highAt p ws j) ≡ true → notAfter (lowAt p ws i) (highAt p ws j) ≡ true → from i j ≡ lowAt p ws i ∷ from (i + 1) j
-      step-low d e o = rw (opened i hi, opened j hj) (low-first (inside q k) (lowAt p ws i) (highAt p ws j) _ _ d e o)
+      pub step-low : inside q k (halfAt p false ws i) ≡ true → inside q k (halfAt p true ws j) ≡ true → notAfter (halfAt p false ws i) (halfAt p true ws j) ≡ true → from i j ≡ halfAt p false ws i ∷ from (i + 1) j
+      step-low d e o = rw (opened i hi, opened j hj) (low-first (inside q k) (halfAt p false ws i) (halfAt p true ws j) _ _ d e o)
 
-      pub step-high : inside q k (lowAt p ws i) ≡ true → inside q k (highAt p ws j) ≡ true → notAfter (lowAt p ws i) (highAt p ws j) ≡ false → from i j ≡ highAt p ws j ∷ from i (j + 1)
-      step-high d e o = rw (opened i hi, opened j hj) (high-first (inside q k) (lowAt p ws i) (highAt p ws j) _ _ d e o)
+      pub step-high : inside q k (halfAt p false ws i) ≡ true → inside q k (halfAt p true ws j) ≡ true → notAfter (halfAt p false ws i) (halfAt p true ws j) ≡ false → from i j ≡ halfAt p true ws j ∷ from i (j + 1)
+      step-high d e o = rw (opened i hi, opened j hj) (high-first (inside q k) (halfAt p false ws i) (halfAt p true ws j) _ _ d e o)

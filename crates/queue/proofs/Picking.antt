@@ -1,27 +1,24 @@
--- Each way that `grow` takes is a step of the merge.
-use mathlib.Core.Path.{_≡_, refl, sym, _∙_}
-use mathlib.Core.Bool.{Bool, true, false, cond}
+-- The half that goes first is the first of the merge, or is passed where it does not stay.
+use mathlib.Core.Path.{_≡_, refl, sym, ap, _∙_}
+use mathlib.Core.Bool.{Bool, true, false, not, cond, _&&_, _||_}
 use mathlib.Core.Logic.{_⊎_, inl, inr, ⊎-elim}
 use mathlib.Core.List.{List, _∷_}
-use Prim.Native.Nat.{ℕ, _+_, _^_, _≤_, _<_}
+use Prim.Native.Nat.{ℕ, _+_, _≤_, _<_}
 use native.Mathlib.Omega.{arith}
 use lib.ListN.{length, getD, take}
-use lib.Seq.{length-take-le, getD-take}
+use lib.Seq.{getD-take}
 use lib.Dec.{leb, ltb}
 use borrow.Author.Tests.{le-leb, lt-leb, leb-true, leb-false, ltb-true, ltb-false}
 use Rattle.rules.specs.declared.Parameter.{Parameter}
-use Rattle.rules.specs.Search.{Query, Box, Depths, stored, lowHalf, highHalf, inside, notAfter}
+use Rattle.rules.specs.Search.{Query, Box, Depths, stored, inside, notAfter}
 use Rattle.kernel.specs.Ranges.{Shallow, InGrid}
-use Rattle.boxes.specs.Boxes.{boxOf}
-use Rattle.boxes.specs.Words.{same-order}
-use Rattle.queue.specs.declared.Pick.{Pick}
+use Rattle.boxes.specs.Boxes.{boxOf, halfOf}
+use Rattle.boxes.specs.Words.{same-order, unpack-pack}
 use Rattle.queue.specs.declared.Half.{Half}
-use Rattle.queue.specs.All.{All, all-at}
+use Rattle.queue.specs.All.{All, all-at, all-front}
 use Rattle.queue.specs.Grid.{fits-grid, stored-of-level}
-use Rattle.queue.specs.Level.{OfLevel, Splits, PickIs, HalfIs, Picked, halvesFrom, lowAt, highAt, past}
+use Rattle.queue.specs.Level.{OfLevel, Splits, Looks, HalfIs, halvesFrom, halfAt, isLowFirst, past}
 use Rattle.queue.proofs.Merging.{step-last-high, step-pass-low, step-last-low, step-pass-high, step-low, step-high}
-
--- ---- a half at its place
 
 below : {a n : ℕ} → a ≤ n → (a < n) ⊎ (a ≡ n)
 below {a} {n} h = go (ltb a n) refl
@@ -30,111 +27,143 @@ below {a} {n} h = go (ltb a n) refl
     go true e = inl (ltb-true a n e)
     go false e = inr (omega (arith, ltb-false a n e))
 
-pub half-past : (q : Query) (k : Depths) (half : ℕ → Box) (n i : ℕ) → i ≡ n → HalfIs q k half n (record { at = i; word = past; stays = true })
-half-past q k half n i e = record {
-  at-le = omega arith;
-  word = λ h. absurd (omega arith);
-  box = λ h. absurd (omega arith);
-  inside-is = λ h. absurd (omega arith);
-  none = λ h. refl;
-  none-stays = λ h. refl;
-}
+-- ---- a half at its place
 
-pub half-of : (q : Query) (k : Depths) (f : Box → Box) (queue : List ℕ) (n i a b : ℕ) (r : Pick) → i ≤ n → (i ≡ n → ⊥) → PickIs q k (f (boxOf (getD queue i 0))) a b r
-    → HalfIs q k (λ (x : ℕ). f (boxOf (getD (take n queue) x 0))) n (record { at = i; word = r .word; stays = r .stays })
-half-of q k f queue n i a b r le ne h = record {
-  at-le = le;
-  word = λ l. rw (getD-take n queue i 0 l) (h .word);
-  box = λ l. rw (getD-take n queue i 0 l) (h .box);
-  inside-is = λ l. rw (getD-take n queue i 0 l) (h .stays);
-  none = λ e. absurd (ne e);
-  none-stays = λ e. absurd (ne e);
-}
+module _ (q : Query) (k : Depths) (p : Parameter) (high : Bool) (queue : List ℕ) (n i : ℕ) where
+  pub splits-at : Looks k p queue n i → (i ≡ n → ⊥) → Splits k p (getD queue i 0)
+  splits-at x ne = all-front (Splits k p) queue n i (x .fits) (x .splits) (omega (arith, x .i-le))
 
--- ---- a step
+  abbrev box : Box
+  box = halfOf p high (boxOf (getD queue i 0))
 
-abbrev pub pickOf : ℕ → Bool → ℕ → ℕ → Pick
-pickOf word stays i j = record { word = word; stays = stays; i = i; j = j }
+  -- it is read back from its word
+  pub half-box : (word : ℕ) → Shallow k → Splits k p (getD queue i 0) → word ≡ stored box → boxOf word ≡ box
+  half-box word shallow x e = rw e (unpack-pack box (fits-grid k box shallow (x .halves high)))
 
-module _ (q : Query) (k : Depths) (p : Parameter) (ws : List ℕ) (n : ℕ) (long : length ws ≡ n) (shallow : Shallow k) (splits : All (Splits k p) ws)
-    (low high : Half) (l : HalfIs q k (lowAt p ws) n low) (g : HalfIs q k (highAt p ws) n high) (some : low .at + high .at < n + n) where
-  abbrev To : Pick → Type 0
-  To r = Picked q k p ws (low .at) (high .at) r
+  pub half-there : (word : ℕ) (stays : Bool) → Looks k p queue n i → (i ≡ n → ⊥) → word ≡ stored box → stays ≡ inside q k (boxOf word)
+      → HalfIs q k (halfAt p high (take n queue)) n (record { at = i; word = word; stays = stays })
+  half-there word stays x ne e f =
+      let b = half-box word (x .shallow) (splits-at x ne) e in
+      record {
+        at-le = x .i-le;
+        word = λ h. rw (getD-take n queue i 0 h) e;
+        box = λ h. rw (getD-take n queue i 0 h) b;
+        inside-is = λ h. rw (getD-take n queue i 0 h) (f ∙ ap (inside q k) b);
+        none = λ z. absurd (ne z);
+        none-stays = λ z. absurd (ne z);
+      }
 
-  low-grid : low .at < n → InGrid k (lowAt p ws (low .at))
-  low-grid h = all-at (Splits k p) ws (low .at) splits (omega arith) .0
+  pub half-none : i ≡ n → HalfIs q k (halfAt p high (take n queue)) n (record { at = i; word = past; stays = true })
+  half-none e = record {
+    at-le = omega arith;
+    word = λ h. absurd (omega arith);
+    box = λ h. absurd (omega arith);
+    inside-is = λ h. absurd (omega arith);
+    none = λ z. refl;
+    none-stays = λ z. refl;
+  }
 
-  high-grid : high .at < n → InGrid k (highAt p ws (high .at))
-  high-grid h = all-at (Splits k p) ws (high .at) splits (omega arith) .1
+-- ---- which of two goes first
 
-  low-level : low .at < n → OfLevel k (low .word)
-  low-level h = stored-of-level k (lowAt p ws (low .at)) (low .word) shallow (low-grid h) (l .word h) (l .box h)
+-- what the test says
+pub data First (x y : ℕ) : Bool → Bool → Bool → Type 0 where
+  pass-low : {s : Bool} → First x y false s true
+  pass-high : First x y true false false
+  not-after : x ≤ y → First x y true true true
+  after : y < x → First x y true true false
 
-  high-level : high .at < n → OfLevel k (high .word)
-  high-level h = stored-of-level k (highAt p ws (high .at)) (high .word) shallow (high-grid h) (g .word h) (g .box h)
+first-is : (x y : ℕ) (s t : Bool) → First x y s t (not s || (t && leb x y))
+first-is x y false t = pass-low
+first-is x y true false = pass-high
+first-is x y true true = go (leb x y) refl
+  where
+    go : (b : Bool) → leb x y ≡ b → First x y true true b
+    go true e = not-after (leb-true x y e)
+    go false e = after (leb-false x y e)
 
-  module _ (i : ℕ) (next : i ≡ low .at + 1) where
-    via-low : (b : Bool) → low .at < n
-        → halvesFrom q k p ws (low .at) (high .at) ≡ cond b (lowAt p ws (low .at) ∷ halvesFrom q k p ws (low .at + 1) (high .at)) (halvesFrom q k p ws (low .at + 1) (high .at))
-        → To (pickOf (low .word) b i (high .at))
-    via-low b h e = record {
-      halves = rw (l .box h, next) e;
-      of-level = low-level h;
-      i-le = omega (arith, long);
-      j-le = omega (arith, long, g .at-le);
-    }
+module _ (q : Query) (k : Depths) (p : Parameter) (ws : List ℕ) (n : ℕ) (long : length ws ≡ n) (shallow : Shallow k) (splits : All (Splits k p) ws) where
+  grid : (high : Bool) (i : ℕ) → i < n → InGrid k (halfAt p high ws i)
+  grid high i h = all-at (Splits k p) ws i splits (omega arith) .halves high
 
-    pub pick-pass-low : low .stays ≡ false → To (pickOf (low .word) false i (high .at))
-    pick-pass-low e =
-        ⊎-elim (λ h. via-low false h (step-pass-low q k p ws (low .at) (high .at) (omega arith) (sym (l .inside-is h) ∙ e)))
-        (λ z. absurd (let o = l .none-stays z in let zero : _≡_ {A = ℕ} 0 1 = cc in omega arith))
-        (below (l .at-le))
+  pub of-level : (high : Bool) (h : Half) → HalfIs q k (halfAt p high ws) n h → h .at < n → OfLevel k (h .word)
+  of-level high h x l = stored-of-level k (halfAt p high ws (h .at)) (h .word) shallow (grid high (h .at) l) (x .word l) (x .box l)
 
-    pub pick-low : low .stays ≡ true → high .stays ≡ true → low .word ≤ high .word → To (pickOf (low .word) true i (high .at))
-    pick-low d e o =
+  order : (i j : ℕ) → i < n → j < n → notAfter (halfAt p false ws i) (halfAt p true ws j) ≡ leb (stored (halfAt p false ws i)) (stored (halfAt p true ws j))
+  order i j hi hj = same-order (halfAt p false ws i) (halfAt p true ws j) (fits-grid k (halfAt p false ws i) shallow (grid false i hi)) (fits-grid k (halfAt p true ws j) shallow (grid true j hj))
+
+  module _ (low high : Half) (l : HalfIs q k (halfAt p false ws) n low) (g : HalfIs q k (halfAt p true ws) n high) (some : low .at + high .at < n + n) where
+    abbrev from : ℕ → ℕ → List Box
+    from i j = halvesFrom q k p ws i j
+
+    abbrev low-box : Box
+    low-box = halfAt p false ws (low .at)
+
+    abbrev high-box : Box
+    high-box = halfAt p true ws (high .at)
+
+    pub record LowTaken : Type 0 where
+      pub here : low .at < n
+      pub halves : from (low .at) (high .at) ≡ cond (low .stays) (low-box ∷ from (low .at + 1) (high .at)) (from (low .at + 1) (high .at))
+
+    pub record HighTaken : Type 0 where
+      pub here : high .at < n
+      pub halves : from (low .at) (high .at) ≡ cond (high .stays) (high-box ∷ from (low .at) (high .at + 1)) (from (low .at) (high .at + 1))
+
+    low-here : low .stays ≡ false → low .at < n
+    low-here e = ⊎-elim (λ h. h) (λ z. let f = l .none-stays z in let no : _≡_ {A = ℕ} 0 1 = cc in omega arith) (below (l .at-le))
+
+    high-here : high .stays ≡ false → high .at < n
+    high-here e = ⊎-elim (λ h. h) (λ z. let f = g .none-stays z in let no : _≡_ {A = ℕ} 0 1 = cc in omega arith) (below (g .at-le))
+
+    -- none stands before a half that is there
+    low-in : high .at < n → low .word ≤ high .word → low .at < n
+    low-in j o = ⊎-elim (λ h. h) (λ z. omega (arith, l .none z, of-level true high g j .fits)) (below (l .at-le))
+
+    high-in : low .at < n → high .word < low .word → high .at < n
+    high-in i o = ⊎-elim (λ h. h) (λ z. omega (arith, g .none z, of-level false low l i .fits)) (below (g .at-le))
+
+    low-first : low .stays ≡ true → high .stays ≡ true → low .word ≤ high .word → LowTaken
+    low-first d e o =
         ⊎-elim
-        (λ hj. ⊎-elim
-        (λ hi. via-low true hi (step-low q k p ws (low .at) (high .at) (omega arith) (omega arith) (sym (l .inside-is hi) ∙ d) (sym (g .inside-is hj) ∙ e)
-        (same-order (lowAt p ws (low .at)) (highAt p ws (high .at)) (fits-grid k (lowAt p ws (low .at)) shallow (low-grid hi)) (fits-grid k (highAt p ws (high .at)) shallow (high-grid hj))
-        ∙ le-leb (stored (lowAt p ws (low .at))) (stored (highAt p ws (high .at))) (omega (arith, l .word hi, g .word hj)))))
-        (λ z. absurd (omega (arith, l .none z, high-level hj .fits)))
-        (below (l .at-le)))
-        (λ z. let hi : low .at < n = omega arith in via-low true hi (step-last-low q k p ws (low .at) (high .at) (omega arith) (omega arith) (sym (l .inside-is hi) ∙ d)))
+        (λ j. let i = low-in j o in
+        record {
+          here = i;
+          halves = rw d (step-low q k p ws (low .at) (high .at) (omega arith) (omega arith) (sym (l .inside-is i) ∙ d) (sym (g .inside-is j) ∙ e)
+              (order (low .at) (high .at) i j ∙ le-leb (stored low-box) (stored high-box) (omega (arith, l .word i, g .word j))));
+        })
+        (λ z. let i : low .at < n = omega arith in
+        record { here = i; halves = rw d (step-last-low q k p ws (low .at) (high .at) (omega arith) (omega arith) (sym (l .inside-is i) ∙ d)) })
         (below (g .at-le))
 
-  module _ (j : ℕ) (next : j ≡ high .at + 1) where
-    via-high : (b : Bool) → high .at < n
-        → halvesFrom q k p ws (low .at) (high .at) ≡ cond b (highAt p ws (high .at) ∷ halvesFrom q k p ws (low .at) (high .at + 1)) (halvesFrom q k p ws (low .at) (high .at + 1))
-        → To (pickOf (high .word) b (low .at) j)
-    via-high b h e = record {
-      halves = rw (g .box h, next) e;
-      of-level = high-level h;
-      i-le = omega (arith, long, l .at-le);
-      j-le = omega (arith, long);
-    }
-
-    pub pick-pass-high : high .stays ≡ false → To (pickOf (high .word) false (low .at) j)
-    pick-pass-high e =
-        ⊎-elim (λ h. via-high false h (step-pass-high q k p ws (low .at) (high .at) (omega arith) (sym (g .inside-is h) ∙ e)))
-        (λ z. absurd (let o = g .none-stays z in let zero : _≡_ {A = ℕ} 0 1 = cc in omega arith))
-        (below (g .at-le))
-
-    pub pick-high : low .stays ≡ true → high .stays ≡ true → high .word < low .word → To (pickOf (high .word) true (low .at) j)
-    pick-high d e o =
+    high-first : low .stays ≡ true → high .stays ≡ true → high .word < low .word → HighTaken
+    high-first d e o =
         ⊎-elim
-        (λ hi. ⊎-elim
-        (λ hj. via-high true hj (step-high q k p ws (low .at) (high .at) (omega arith) (omega arith) (sym (l .inside-is hi) ∙ d) (sym (g .inside-is hj) ∙ e)
-        (same-order (lowAt p ws (low .at)) (highAt p ws (high .at)) (fits-grid k (lowAt p ws (low .at)) shallow (low-grid hi)) (fits-grid k (highAt p ws (high .at)) shallow (high-grid hj))
-        ∙ lt-leb (stored (lowAt p ws (low .at))) (stored (highAt p ws (high .at))) (omega (arith, l .word hi, g .word hj)))))
-        (λ z. absurd (omega (arith, g .none z, low-level hi .fits)))
-        (below (g .at-le)))
-        (λ z. let hj : high .at < n = omega arith in via-high true hj (step-last-high q k p ws (low .at) (high .at) (omega arith) (omega arith) (sym (g .inside-is hj) ∙ e)))
+        (λ i. let j = high-in i o in
+        record {
+          here = j;
+          halves = rw e (step-high q k p ws (low .at) (high .at) (omega arith) (omega arith) (sym (l .inside-is i) ∙ d) (sym (g .inside-is j) ∙ e)
+              (order (low .at) (high .at) i j ∙ lt-leb (stored low-box) (stored high-box) (omega (arith, l .word i, g .word j))));
+        })
+        (λ z. let j : high .at < n = omega arith in
+        record { here = j; halves = rw e (step-last-high q k p ws (low .at) (high .at) (omega arith) (omega arith) (sym (g .inside-is j) ∙ e)) })
         (below (l .at-le))
 
-  -- the next one, whichever it is
-  pub pick-any : low .stays ≡ true → high .stays ≡ true → (P : Type 0) → ((r : Pick) → To r → r .stays ≡ true → P) → P
-  pick-any d e P f = go (leb (low .word) (high .word)) refl
-    where
-      go : (b : Bool) → leb (low .word) (high .word) ≡ b → P
-      go true x = f (pickOf (low .word) true (low .at + 1) (high .at)) (pick-low (low .at + 1) refl d e (leb-true (low .word) (high .word) x)) refl
-      go false x = f (pickOf (high .word) true (low .at) (high .at + 1)) (pick-high (high .at + 1) refl d e (leb-false (low .word) (high .word) x)) refl
+    low-taken : {s t b : Bool} → low .stays ≡ s → high .stays ≡ t → First (low .word) (high .word) s t b → b ≡ true → LowTaken
+    low-taken d e pass-low f =
+        let i = low-here d in record { here = i; halves = rw d (step-pass-low q k p ws (low .at) (high .at) (omega arith) (sym (l .inside-is i) ∙ d)) }
+    low-taken d e (not-after o) f = low-first d e o
+    low-taken d e pass-high f = absurd (let no : _≡_ {A = ℕ} 0 1 = cc in omega arith)
+    low-taken d e (after o) f = absurd (let no : _≡_ {A = ℕ} 0 1 = cc in omega arith)
+
+    high-taken : {s t b : Bool} → low .stays ≡ s → high .stays ≡ t → First (low .word) (high .word) s t b → b ≡ false → HighTaken
+    high-taken d e pass-high f =
+        let j = high-here e in record { here = j; halves = rw e (step-pass-high q k p ws (low .at) (high .at) (omega arith) (sym (g .inside-is j) ∙ e)) }
+    high-taken d e (after o) f = high-first d e o
+    high-taken d e pass-low f = absurd (let no : _≡_ {A = ℕ} 0 1 = cc in omega arith)
+    high-taken d e (not-after o) f = absurd (let no : _≡_ {A = ℕ} 0 1 = cc in omega arith)
+
+    pub taken-low : isLowFirst low high ≡ true → LowTaken
+    taken-low = low-taken refl refl (first-is (low .word) (high .word) (low .stays) (high .stays))
+
+    pub taken-high : isLowFirst low high ≡ false → HighTaken
+    taken-high = high-taken refl refl (first-is (low .word) (high .word) (low .stays) (high .stays))

@@ -1,5 +1,6 @@
 -- A box of a level fits a word, and its halves are boxes of the next level.
 use mathlib.Core.Path.{_≡_}
+use mathlib.Core.Bool.{Bool, true, false}
 use Prim.Native.Nat.{ℕ, _+_, _*_, _^_, _<_}
 use native.Mathlib.Nat.{lt-of-lt-of-le, pow-suc}
 use native.Mathlib.Numerals.{add-one}
@@ -9,7 +10,7 @@ use Rattle.rules.specs.declared.Parameter.{Parameter}
 use Rattle.rules.specs.declared.Parameter.the-variants.{InT, InU, InV}
 use Rattle.rules.specs.Search.{Box, Depths, stored, deeper}
 use Rattle.kernel.specs.Ranges.{Shallow, InGrid}
-use Rattle.boxes.specs.Boxes.{boxOf, Fits}
+use Rattle.boxes.specs.Boxes.{boxOf, halfOf, Fits}
 use Rattle.queue.specs.Level.{OfLevel, Splits}
 
 pub fits-grid : (k : Depths) (b : Box) → Shallow k → InGrid k b → Fits b
@@ -34,6 +35,12 @@ more-high : (i k : ℕ) → i < 2 ^ k → 2 * i + 1 < 2 ^ (k + 1)
 more-high i k h = omega (arith, double k)
 
 pub splits-grid : (p : Parameter) (k : Depths) (w : ℕ) → OfLevel k w → Splits (deeper p k) p w
-splits-grid InT k w g = (record { t = more-low _ _ (g .grid .t); u = g .grid .u; v = g .grid .v }, record { t = more-high _ _ (g .grid .t); u = g .grid .u; v = g .grid .v })
-splits-grid InU k w g = (record { t = g .grid .t; u = more-low _ _ (g .grid .u); v = g .grid .v }, record { t = g .grid .t; u = more-high _ _ (g .grid .u); v = g .grid .v })
-splits-grid InV k w g = (record { t = g .grid .t; u = g .grid .u; v = more-low _ _ (g .grid .v) }, record { t = g .grid .t; u = g .grid .u; v = more-high _ _ (g .grid .v) })
+splits-grid p k w g = record { fits = g .fits; halves = grid p }
+  where
+    grid : (p : Parameter) (high : Bool) → InGrid (deeper p k) (halfOf p high (boxOf w))
+    grid InT false = record { t = more-low _ _ (g .grid .t); u = g .grid .u; v = g .grid .v }
+    grid InT true = record { t = more-high _ _ (g .grid .t); u = g .grid .u; v = g .grid .v }
+    grid InU false = record { t = g .grid .t; u = more-low _ _ (g .grid .u); v = g .grid .v }
+    grid InU true = record { t = g .grid .t; u = more-high _ _ (g .grid .u); v = g .grid .v }
+    grid InV false = record { t = g .grid .t; u = g .grid .u; v = more-low _ _ (g .grid .v) }
+    grid InV true = record { t = g .grid .t; u = g .grid .u; v = more-high _ _ (g .grid .v) }

@@ -1,17 +1,18 @@
 -- A level as the first words of the queue, and how the next one grows from it.
 use mathlib.Core.Path.{_≡_}
-use mathlib.Core.Bool.{true, cond}
+use mathlib.Core.Bool.{Bool, true, false, not, cond, _&&_, _||_}
 use mathlib.Core.List.{List, _∷_, map}
 use Prim.Native.Nat.{ℕ, _+_, _^_, _≤_, _<_}
 use lib.ListN.{length, getD, take, drop}
+use lib.Dec.{leb}
 use Rattle.rules.specs.declared.Parameter.{Parameter}
 use Rattle.rules.specs.Search.{Query, Box, Depths, stored, lowHalf, highHalf, inside, those, merge, halves}
 use Rattle.kernel.specs.declared.Pair.{Pair}
 use Rattle.kernel.specs.Kernel.{asked}
 use Rattle.kernel.specs.Ranges.{Shallow, InGrid}
-use Rattle.boxes.specs.Boxes.{boxOf}
-use Rattle.queue.specs.declared.Pick.{Pick}
+use Rattle.boxes.specs.Boxes.{boxOf, halfOf}
 use Rattle.queue.specs.declared.Half.{Half}
+use Rattle.queue.specs.declared.Taken.{Taken}
 use Rattle.queue.specs.declared.Next.{Next}
 use Rattle.queue.specs.declared.Next.the-variants.{Room, Level}
 use Rattle.queue.specs.All.{All}
@@ -22,30 +23,14 @@ pub record OfLevel (k : Depths) (w : ℕ) : Type 0 where
   pub fits : w < 2 ^ 60
 
 -- both halves of the box are boxes of the level of depths k
-abbrev pub Splits : Depths → Parameter → ℕ → Type 0
-Splits k p w = InGrid k (lowHalf p (boxOf w)) × InGrid k (highHalf p (boxOf w))
+pub record Splits (k : Depths) (p : Parameter) (w : ℕ) : Type 0 where
+  pub fits : w < 2 ^ 60
+  pub halves : (high : Bool) → InGrid k (halfOf p high (boxOf w))
 
--- ---- one half
+-- ---- a half at its place
 
-pub record Halved (k : Depths) (split : Parameter) (word i j : ℕ) : Type 0 where
-  pub shallow : Shallow k
-  pub halves : Splits k split word
-  pub i-fits : i + 1 < 2 ^ 64
-  pub j-fits : j + 1 < 2 ^ 64
-
-pub record PickIs (q : Query) (k : Depths) (b : Box) (i j : ℕ) (r : Pick) : Type 0 where
-  pub word : r .word ≡ stored b
-  pub box : boxOf (r .word) ≡ b
-  pub stays : r .stays ≡ inside q k b
-  pub i-is : r .i ≡ i
-  pub j-is : r .j ≡ j
-
--- ---- the next half
-
--- the halves that stay, from the ith low and the jth high one on, as one ascending list
-abbrev pub halvesFrom : Query → Depths → Parameter → List ℕ → ℕ → ℕ → List Box
-halvesFrom q k p words i j =
-    merge (those (inside q k) (map (lowHalf p) (map boxOf (drop i words)))) (those (inside q k) (map (highHalf p) (map boxOf (drop j words))))
+abbrev pub halfAt : Parameter → Bool → List ℕ → ℕ → Box
+halfAt p high words i = halfOf p high (boxOf (getD words i 0))
 
 pub record Looks (k : Depths) (split : Parameter) (queue : List ℕ) (n i : ℕ) : Type 0 where
   pub shallow : Shallow k
@@ -57,12 +42,6 @@ pub record Looks (k : Depths) (split : Parameter) (queue : List ℕ) (n i : ℕ)
 abbrev pub past : ℕ
 past = 18_446_744_073_709_551_615
 
-abbrev pub lowAt : Parameter → List ℕ → ℕ → Box
-lowAt p words i = lowHalf p (boxOf (getD words i 0))
-
-abbrev pub highAt : Parameter → List ℕ → ℕ → Box
-highAt p words i = highHalf p (boxOf (getD words i 0))
-
 -- of n halves the one at its place, or none
 pub record HalfIs (q : Query) (k : Depths) (half : ℕ → Box) (n : ℕ) (r : Half) : Type 0 where
   pub at-le : r .at ≤ n
@@ -72,11 +51,31 @@ pub record HalfIs (q : Query) (k : Depths) (half : ℕ → Box) (n : ℕ) (r : H
   pub none : r .at ≡ n → r .word ≡ past
   pub none-stays : r .at ≡ n → r .stays ≡ true
 
-pub record Picked (q : Query) (k : Depths) (split : Parameter) (words : List ℕ) (i j : ℕ) (r : Pick) : Type 0 where
-  pub halves : halvesFrom q k split words i j ≡ cond (r .stays) (boxOf (r .word) ∷ halvesFrom q k split words (r .i) (r .j)) (halvesFrom q k split words (r .i) (r .j))
+-- ---- a step of the merge
+
+-- the halves that stay, from the ith low and the jth high one on, as one ascending list
+abbrev pub halvesFrom : Query → Depths → Parameter → List ℕ → ℕ → ℕ → List Box
+halvesFrom q k p words i j =
+    merge (those (inside q k) (map (lowHalf p) (map boxOf (drop i words)))) (those (inside q k) (map (highHalf p) (map boxOf (drop j words))))
+
+abbrev pub isLowFirst : Half → Half → Bool
+isLowFirst low high = not (low .stays) || (high .stays && leb (low .word) (high .word))
+
+pub record Takes (q : Query) (k : Depths) (split : Parameter) (queue : List ℕ) (n : ℕ) (low high : Half) : Type 0 where
+  pub shallow : Shallow k
+  pub fits : n ≤ length queue
+  pub splits : All (Splits k split) (take n queue)
+  pub low-is : HalfIs q k (halfAt split false (take n queue)) n low
+  pub high-is : HalfIs q k (halfAt split true (take n queue)) n high
+  pub some : low .at + high .at < n + n
+
+-- one half is taken, or passed where it does not stay; the two that are next are at hand
+pub record TakenIs (q : Query) (k : Depths) (split : Parameter) (words : List ℕ) (n : ℕ) (low high : Half) (r : Taken) : Type 0 where
+  pub halves : halvesFrom q k split words (low .at) (high .at) ≡ cond (r .stays) (boxOf (r .word) ∷ halvesFrom q k split words (r .low .at) (r .high .at)) (halvesFrom q k split words (r .low .at) (r .high .at))
   pub of-level : OfLevel k (r .word)
-  pub i-le : r .i ≤ length words
-  pub j-le : r .j ≤ length words
+  pub one-more : r .low .at + r .high .at ≡ low .at + high .at + 1
+  pub low-is : HalfIs q k (halfAt split false words) n (r .low)
+  pub high-is : HalfIs q k (halfAt split true words) n (r .high)
 
 -- ---- the next level
 

@@ -3,14 +3,10 @@ ghost use mathlib.Core.Path.{_≡_};
 ghost use mathlib.Core.List.{_++_};
 ghost use Prim.Native.Nat.{_+_, _≤_};
 ghost use lib.ListN.{length, take, drop, replicate};
-ghost use Rattle.rules.specs.Search.{lowHalf, highHalf};
 ghost use Rattle.kernel.specs.Kernel.{asked};
-ghost use Rattle.boxes.specs.Boxes.{boxOf};
 ghost use Rattle.queue.specs.Cleared.{cleared};
-ghost use Rattle.queue.specs.Level.{Halved, PickIs, Looks, HalfIs, lowAt, highAt, Grows, Grown};
-use boxes::high_half;
-use boxes::low_half;
-use boxes::pack;
+ghost use Rattle.queue.specs.Level.{Looks, HalfIs, halfAt, isLowFirst, Takes, TakenIs, Grows, Grown};
+use boxes::half;
 use boxes::unpack;
 use kernel::Pair;
 use rules::Parameter;
@@ -47,87 +43,89 @@ pub fn copy_down(queue: &mut [u64], h: usize, n: usize)
     }
 }
 
-// A half as a word, whether it stays, and the places of the low and the high half after it.
-pub struct Pick {
-    pub word: u64,
-    pub stays: bool,
-    pub i: usize,
-    pub j: usize,
-}
-
-// The low half of the ith box; k are the depths after the split.
-fn low_of(p: Pair, k: Three, split: Parameter, word: u64, i: usize, j: usize) -> Pick
-    requires { ⌜ Halved k split word i j ⌝ }
-    ensures { λ r. ⌜ PickIs (asked p) k (lowHalf split (boxOf word)) (i + 1) j r ⌝ }
-{
-    let b = low_half(split, unpack(word));
-    Pick {
-        word: pack(b),
-        stays: gap::inside(p, k, b),
-        i: i + 1,
-        j,
-    }
-}
-
-// The high half of the jth box.
-fn high_of(p: Pair, k: Three, split: Parameter, word: u64, i: usize, j: usize) -> Pick
-    requires { ⌜ Halved k split word i j ⌝ }
-    ensures { λ r. ⌜ PickIs (asked p) k (highHalf split (boxOf word)) i (j + 1) r ⌝ }
-{
-    let b = high_half(split, unpack(word));
-    Pick {
-        word: pack(b),
-        stays: gap::inside(p, k, b),
-        i,
-        j: j + 1,
-    }
-}
-
 // Greater than the word of any box.
 const PAST: u64 = 18446744073709551615;
 
-// The half of a place, or past the last place one that stays, with the word `PAST`.
+// A half at its place among the low or the high halves: its word, and whether it stays. Past the last place stands one that stays, with the word `PAST`.
 pub struct Half {
     pub at: usize,
     pub word: u64,
     pub stays: bool,
 }
 
-fn low_at(p: Pair, k: Three, split: Parameter, queue: &[u64], n: usize, i: usize) -> Half
-    requires { ⌜ Looks k split (now queue) n i ⌝ }
-    ensures { λ r. ⌜ (r .at ≡ i) × HalfIs (asked p) k (lowAt split (take n (now (queue .entry)))) n r ⌝ }
+// The low or the high half of the box at a place; k are the depths after the split.
+fn half_at(
+    p: Pair,
+    k: Three,
+    split: Parameter,
+    high: bool,
+    queue: &[u64],
+    n: usize,
+    at: usize,
+) -> Half
+    requires { ⌜ Looks k split (now queue) n at ⌝ }
+    ensures { λ r. ⌜ (r .at ≡ at) × HalfIs (asked p) k (halfAt split high (take n (now (queue .entry)))) n r ⌝ }
 {
-    if i == n {
+    if at == n {
         return Half {
-            at: i,
+            at,
             word: PAST,
             stays: true,
         };
     }
-    let l = low_of(p, k, split, queue[i], i, 0);
+    let word = half(split, high, queue[at]);
+    let b = unpack(word);
     Half {
-        at: i,
-        word: l.word,
-        stays: l.stays,
+        at,
+        word,
+        stays: gap::inside(p, k, b),
     }
 }
 
-fn high_at(p: Pair, k: Three, split: Parameter, queue: &[u64], n: usize, j: usize) -> Half
-    requires { ⌜ Looks k split (now queue) n j ⌝ }
-    ensures { λ r. ⌜ (r .at ≡ j) × HalfIs (asked p) k (highAt split (take n (now (queue .entry)))) n r ⌝ }
+// Whether the low half goes before the high one; one that does not stay goes by itself, so that it is passed.
+fn is_low_first(low: Half, high: Half) -> bool
+    ensures { λ r. ⌜ r ≡ isLowFirst low high ⌝ }
 {
-    if j == n {
-        return Half {
-            at: j,
-            word: PAST,
-            stays: true,
-        };
-    }
-    let l = high_of(p, k, split, queue[j], 0, j);
-    Half {
-        at: j,
-        word: l.word,
-        stays: l.stays,
+    !low.stays | (high.stays & (low.word <= high.word))
+}
+
+// The half that goes first, and the two that are next then.
+pub struct Taken {
+    pub word: u64,
+    pub stays: bool,
+    pub low: Half,
+    pub high: Half,
+}
+
+// Only the list that the half is taken from goes on, so that each half is worked out once.
+fn take_half(
+    p: Pair,
+    k: Three,
+    split: Parameter,
+    queue: &[u64],
+    n: usize,
+    low: Half,
+    high: Half,
+) -> Taken
+    requires { ⌜ Takes (asked p) k split (now queue) n low high ⌝ }
+    ensures { λ r. ⌜ TakenIs (asked p) k split (take n (now (queue .entry))) n low high r ⌝ }
+{
+    if is_low_first(low, high) {
+        let next = half_at(p, k, split, false, queue, n, low.at + 1);
+        Taken {
+            word: low.word,
+            stays: low.stays,
+            low: next,
+            high,
+        }
+    } else {
+        let next = half_at(p, k, split, true, queue, n, high.at + 1);
+        Taken {
+            word: high.word,
+            stays: high.stays,
+            low,
+            high: next,
+        }
     }
 }
 
@@ -143,30 +141,19 @@ pub fn grow(p: Pair, k: Three, split: Parameter, queue: &mut [u64], n: usize) ->
     ensures { λ r. ⌜ Grown p k split n (now (queue .entry)) (now (queue .exit)) r ⌝ }
 {
     let h = p.room;
-    let mut low = low_at(p, k, split, queue, n, 0);
-    let mut high = high_at(p, k, split, queue, n, 0);
+    let mut low = half_at(p, k, split, false, queue, n, 0);
+    let mut high = half_at(p, k, split, true, queue, n, 0);
     let mut m = 0;
-    // each half is worked out once: only the list that one was taken from goes on
     while low.at + high.at < n + n {
-        if !low.stays {
-            low = low_at(p, k, split, queue, n, low.at + 1);
-        } else if !high.stays {
-            high = high_at(p, k, split, queue, n, high.at + 1);
-        } else {
+        let next = take_half(p, k, split, queue, n, low, high);
+        low = next.low;
+        high = next.high;
+        if next.stays {
             if m == h {
                 return Next::Room;
             }
-            if low.word <= high.word {
-                let word = low.word;
-                low = low_at(p, k, split, queue, n, low.at + 1);
-                queue[h + m] = word;
-                m += 1;
-            } else {
-                let word = high.word;
-                high = high_at(p, k, split, queue, n, high.at + 1);
-                queue[h + m] = word;
-                m += 1;
-            }
+            queue[h + m] = next.word;
+            m += 1;
         }
     }
     Next::Level(m)
