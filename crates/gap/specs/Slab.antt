@@ -1,17 +1,16 @@
 -- What all boxes of a level with one t index share: at a moment F over a cell is F over the cell at u and v index 0, moved by its low corner.
 use mathlib.Core.Path.{_≡_, refl, sym, ap, ap₂, _∙_, subst}
-use mathlib.Core.Bool.{Bool, _&&_}
+use mathlib.Core.Bool.{Bool, _&&_, _||_}
 use mathlib.Core.List.{[], _∷_}
-use Prim.Native.Nat.{ℕ, _+_, _*_, _≤_}
+use Prim.Native.Nat.{ℕ, _+_, _*_, _^_, _≤_, _<_}
 use native.Mathlib.Omega.{arith}
-use lib.IntN.{ℤ, pos, negℤ, _+ℤ_, _*ℤ_}
+use lib.IntN.{ℤ, pos, negℤ, _+ℤ_, _-ℤ_, _*ℤ_}
+use lib.Pow.{pow-mono}
 use lib.Signed.{leZ}
-use mir.Syntax.{w64}
-use mir.Val.{SFits}
 use Rattle.whole.specs.Defs.{minZ, maxZ}
-use Rattle.whole.specs.Order.{min-add, max-add, min-pick, max-pick}
+use Rattle.whole.specs.Order.{min-add, max-add, min-test, max-test, sum-below, sum-above}
 use Rattle.whole.specs.Ring.{var, num, _:+_, _:*_, ring}
-use Rattle.whole.specs.Within.{Within, within-add, within-mul, within-pos, within-more, fits}
+use Rattle.whole.specs.Within.{Within, within-sub, within-neg, within-pos, within-more}
 use Rattle.rules.specs.declared.Three.{Three}
 use Rattle.rules.specs.Numbers.{parts}
 use Rattle.rules.specs.Search.{unit, side, low, survives}
@@ -32,26 +31,34 @@ use Rattle.gap.specs.Bounds.{gapMost, span-within}
 use Rattle.gap.specs.Grid.{in-parts-of}
 use Rattle.gap.specs.Asked.{by-height}
 
-abbrev pub edgeOf : Moment → Cell → Edge
-edgeOf m w = record { b = m .b; c = m .c; least = spanAt m w .least; greatest = spanAt m w .greatest }
+-- by the cell w at u and v index 0, for a separation of `limit`
+abbrev pub edgeOf : Moment → Cell → ℤ → Edge
+edgeOf m w limit =
+    record {
+      u = pos (w .u1) *ℤ m .b;
+      v = pos (w .v1) *ℤ m .c;
+      from = negℤ limit -ℤ spanAt m w .greatest;
+      to = limit -ℤ spanAt m w .least;
+    }
 
-abbrev pub stripOf : Kernel → Cell → Strip
-stripOf K w = record { start = edgeOf (momentOf K (w .t0)) w; end = edgeOf (momentOf K (w .t1)) w }
+abbrev pub stripOf : Kernel → Cell → ℕ → Strip
+stripOf K w d = record { start = edgeOf (momentOf K (w .t0)) w (pos (d * unit)); end = edgeOf (momentOf K (w .t1)) w (pos (d * unit)) }
 
 -- the cell at u and v index 0
 abbrev pub rowOf : Three → ℕ → Cell
 rowOf k t = cellOf k (record { t = t; u = 0; v = 0 })
 
 unfoldable pub slabOf : Pair → Three → ℕ → Slab
-slabOf p k t = record { t = t; x = stripOf (p .x) (rowOf k t); y = stripOf (p .y) (rowOf k t); z = stripOf (p .z) (rowOf k t) }
+slabOf p k t =
+    record { t = t; x = stripOf (p .x) (rowOf k t) (p .dx); y = stripOf (p .y) (rowOf k t) (p .dy); z = stripOf (p .z) (rowOf k t) (p .dz) }
 
-pub slab-is : (p : Pair) (k : Three) (t : ℕ) {w : Cell} {x y z : Strip} → w ≡ rowOf k t → x ≡ stripOf (p .x) w → y ≡ stripOf (p .y) w → z ≡ stripOf (p .z) w
+pub slab-is : (p : Pair) (k : Three) (t : ℕ) {w : Cell} {x y z : Strip} → w ≡ rowOf k t → x ≡ stripOf (p .x) w (p .dx) → y ≡ stripOf (p .y) w (p .dy) → z ≡ stripOf (p .z) w (p .dz)
     → record { t = t; x = x; y = y; z = z } ≡ slabOf p k t
 unfolding slabOf
 slab-is p k t e f g h =
-    let x = f ∙ ap (λ (w : Cell). stripOf (p .x) w) e in
-    let y = g ∙ ap (λ (w : Cell). stripOf (p .y) w) e in
-    let z = h ∙ ap (λ (w : Cell). stripOf (p .z) w) e in
+    let x = f ∙ ap (λ (w : Cell). stripOf (p .x) w (p .dx)) e in
+    let y = g ∙ ap (λ (w : Cell). stripOf (p .y) w (p .dy)) e in
+    let z = h ∙ ap (λ (w : Cell). stripOf (p .z) w (p .dz)) e in
     λ i. record { t = t; x = x i; y = y i; z = z i }
 
 -- it is that of its own t index
@@ -59,67 +66,63 @@ pub slab-own : (p : Pair) (k : Three) (t : ℕ) (s : Slab) → s ≡ slabOf p k 
 unfolding slabOf
 slab-own p k t s e = e ∙ ap (λ (t : ℕ). slabOf p k t) (sym (ap (λ (s : Slab). s .t) e))
 
--- moved by a low corner
-abbrev pub moved : Edge → ℕ → ℕ → Span
-moved e u v = record { least = pos u *ℤ e .b +ℤ pos v *ℤ e .c +ℤ e .least; greatest = pos u *ℤ e .b +ℤ pos v *ℤ e .c +ℤ e .greatest }
+-- by a u and a v index
+abbrev pub changed : Edge → ℕ → ℕ → ℤ
+changed e u v = pos u *ℤ e .u +ℤ pos v *ℤ e .v
 
-abbrev pub stripAt : Strip → ℕ → ℕ → Span
-stripAt s u v = joined (moved (s .start) u v) (moved (s .end) u v)
-
-unfoldable pub meetsStrip : Strip → ℕ → ℕ → ℕ → Bool
-meetsStrip s u v d = leZ (stripAt s u v .least) (pos (d * unit)) && leZ (negℤ (pos (d * unit))) (stripAt s u v .greatest)
+unfoldable pub meetsStrip : Strip → ℕ → ℕ → Bool
+meetsStrip s u v =
+    (leZ (changed (s .start) u v) (s .start .to) || leZ (changed (s .end) u v) (s .end .to))
+    && (leZ (s .start .from) (changed (s .start) u v) || leZ (s .end .from) (changed (s .end) u v))
 
 -- ---- every step fits
+
+-- a separation, and what bounds the changes, at most
+abbrev pub limitMost : ℕ
+limitMost = 72_057_594_037_927_936
 
 pub record Moves (e : Edge) (u v : ℕ) : Type 0 where
   pub u-most : u ≤ parts
   pub v-most : v ≤ parts
-  pub b : Within blendMost (e .b)
-  pub c : Within blendMost (e .c)
-  pub least : Within gapMost (e .least)
-  pub greatest : Within gapMost (e .greatest)
-  pub least-moved : Within gapMost (moved e u v .least)
-  pub greatest-moved : Within gapMost (moved e u v .greatest)
+  pub by-u : Within termMost (e .u)
+  pub by-v : Within termMost (e .v)
+  pub along-u : Within termMost (pos u *ℤ e .u)
+  pub along-v : Within termMost (pos v *ℤ e .v)
+  pub from : Within (limitMost + gapMost) (e .from)
+  pub to : Within (limitMost + gapMost) (e .to)
 
 pub record MovesStrip (s : Strip) (u v : ℕ) : Type 0 where
   pub start : Moves (s .start) u v
   pub end : Moves (s .end) u v
 
-pub record Along (e : Edge) (u v : ℕ) : Type 0 where
-  pub ub : SFits w64 (pos u *ℤ e .b)
-  pub vc : SFits w64 (pos v *ℤ e .c)
-  pub x : SFits w64 (pos u *ℤ e .b +ℤ pos v *ℤ e .c)
-  pub least : SFits w64 (e .least)
-  pub greatest : SFits w64 (e .greatest)
-  pub low : SFits w64 (moved e u v .least)
-  pub high : SFits w64 (moved e u v .greatest)
+-- ---- a cell is the one at index 0, moved by its u and v index
 
-pub along : {e : Edge} {u v : ℕ} → Moves e u v → Along e u v
-along h =
-    let ub = term-within (h .u-most) (h .b) in
-    let vc = term-within (h .v-most) (h .c) in
-    record {
-      ub = fits tt ub;
-      vc = fits tt vc;
-      x = fits tt (within-add ub vc);
-      least = fits tt (h .least);
-      greatest = fits tt (h .greatest);
-      low = fits tt (h .least-moved);
-      high = fits tt (h .greatest-moved);
-    }
-
--- a cell is the one at index 0, moved
-pub record Shifted (w w0 : Cell) : Type 0 where
+pub record Shifted (i j : ℕ) (w w0 : Cell) : Type 0 where
   pub t0 : w .t0 ≡ w0 .t0
   pub t1 : w .t1 ≡ w0 .t1
-  pub u0 : w0 .u0 ≡ 0
-  pub v0 : w0 .v0 ≡ 0
+  pub none-u : w0 .u0 ≡ 0
+  pub none-v : w0 .v0 ≡ 0
+  pub u0 : i * w0 .u1 ≡ w .u0
+  pub v0 : j * w0 .v1 ≡ w .v0
   pub u1 : w .u1 ≡ w .u0 + w0 .u1
   pub v1 : w .v1 ≡ w .v0 + w0 .v1
 
-pub shifted : (k i : Three) → Shifted (cellOf k i) (rowOf k (i .t))
-shifted k i = record { t0 = refl; t1 = refl; u0 = omega arith; v0 = omega arith; u1 = omega (arith, more (i .u) (side (k .u))); v1 = omega (arith, more (i .v) (side (k .v))) }
+pub shifted : (k b : Three) → Shifted (b .u) (b .v) (cellOf k b) (rowOf k (b .t))
+shifted k b =
+    record {
+      t0 = refl;
+      t1 = refl;
+      none-u = omega arith;
+      none-v = omega arith;
+      u0 = ap (λ (n : ℕ). b .u * n) (one (side (k .u)));
+      v0 = ap (λ (n : ℕ). b .v * n) (one (side (k .v)));
+      u1 = omega (arith, more (b .u) (side (k .u)));
+      v1 = omega (arith, more (b .v) (side (k .v)));
+    }
   where
+    one : (s : ℕ) → (0 + 1) * s ≡ s
+    one s = omega arith
+
     more : (n s : ℕ) → (n + 1) * s ≡ n * s + (0 + 1) * s
     more n s = omega arith
 
@@ -132,79 +135,123 @@ module _ (pick : ℤ → ℤ → ℤ) (add : (x y z : ℤ) → pick (x +ℤ y) (
       (ap (λ (n : ℕ). pos n *ℤ b) e ∙ ring (pos lo ∷ pos side ∷ b ∷ []) ((var 0 :+ var 1) :* var 2) (var 0 :* var 2 :+ var 1 :* var 2) tt)
       ∙ add (pos lo *ℤ b) (pos none *ℤ b) (pos side *ℤ b)
 
-  at : (w w0 : Cell) → Shifted w w0 → (m : Moment)
+  at : (i j : ℕ) (w w0 : Cell) → Shifted i j w w0 → (m : Moment)
       → pos (w .u0) *ℤ m .b +ℤ pos (w .v0) *ℤ m .c +ℤ (pos parts *ℤ m .a +ℤ pick (pos (w0 .u0) *ℤ m .b) (pos (w0 .u1) *ℤ m .b) +ℤ pick (pos (w0 .v0) *ℤ m .c) (pos (w0 .v1) *ℤ m .c))
       ≡ pos parts *ℤ m .a +ℤ pick (pos (w .u0) *ℤ m .b) (pos (w .u1) *ℤ m .b) +ℤ pick (pos (w .v0) *ℤ m .c) (pos (w .v1) *ℤ m .c)
-  at w w0 s m =
+  at i j w w0 s m =
       ring ((pos (w .u0) *ℤ m .b) ∷ (pos (w .v0) *ℤ m .c) ∷ (pos parts *ℤ m .a) ∷ pick (pos (w0 .u0) *ℤ m .b) (pos (w0 .u1) *ℤ m .b) ∷ pick (pos (w0 .v0) *ℤ m .c) (pos (w0 .v1) *ℤ m .c) ∷ [])
       (var 0 :+ var 1 :+ (var 2 :+ var 3 :+ var 4)) (var 2 :+ (var 0 :+ var 3) :+ (var 1 :+ var 4)) tt
       ∙ ap₂ (λ (x y : ℤ). pos parts *ℤ m .a +ℤ x +ℤ y)
-      (sym (term (w .u0) (w .u1) (w0 .u0) (w0 .u1) (m .b) (s .u0) (s .u1)))
-      (sym (term (w .v0) (w .v1) (w0 .v0) (w0 .v1) (m .c) (s .v0) (s .v1)))
+      (sym (term (w .u0) (w .u1) (w0 .u0) (w0 .u1) (m .b) (s .none-u) (s .u1)))
+      (sym (term (w .v0) (w .v1) (w0 .v0) (w0 .v1) (m .c) (s .none-v) (s .v1)))
 
-module _ (w w0 : Cell) (s : Shifted w w0) where
-  pub edge-moved : (m : Moment) → moved (edgeOf m w0) (w .u0) (w .v0) ≡ spanAt m w
-  edge-moved m = λ i. record { least = at minZ min-add w w0 s m i; greatest = at maxZ max-add w w0 s m i }
+module _ (i j : ℕ) (w w0 : Cell) (s : Shifted i j w w0) where
+  -- the changes by its indices are those to its low corner
+  low-corner : (m : Moment) (limit : ℤ) → changed (edgeOf m w0 limit) i j ≡ pos (w .u0) *ℤ m .b +ℤ pos (w .v0) *ℤ m .c
+  low-corner m limit =
+      ring (pos i ∷ pos j ∷ pos (w0 .u1) ∷ pos (w0 .v1) ∷ m .b ∷ m .c ∷ [])
+      (var 0 :* (var 2 :* var 4) :+ var 1 :* (var 3 :* var 5)) (var 0 :* var 2 :* var 4 :+ var 1 :* var 3 :* var 5) tt
+      ∙ ap₂ (λ (u v : ℕ). pos u *ℤ m .b +ℤ pos v *ℤ m .c) (s .u0) (s .v0)
 
-  pub strip-moved : (K : Kernel) → stripAt (stripOf K w0) (w .u0) (w .v0) ≡ spanOver K w
-  strip-moved K =
-      ap₂ joined
-      (edge-moved (momentOf K (w0 .t0)) ∙ ap (λ (t : ℕ). spanAt (momentOf K t) w) (sym (s .t0)))
-      (edge-moved (momentOf K (w0 .t1)) ∙ ap (λ (t : ℕ). spanAt (momentOf K t) w) (sym (s .t1)))
-      ∙ span-over K w
+  below : (m : Moment) (limit : ℤ) → leZ (changed (edgeOf m w0 limit) i j) (limit -ℤ spanAt m w0 .least) ≡ leZ (spanAt m w .least) limit
+  below m limit =
+      sym (sum-below (changed (edgeOf m w0 limit) i j) (spanAt m w0 .least) limit)
+      ∙ ap (λ (z : ℤ). leZ z limit) (ap (λ (x : ℤ). x +ℤ spanAt m w0 .least) (low-corner m limit) ∙ at minZ min-add i j w w0 s m)
 
-  pub strip-meets : (K : Kernel) (d : ℕ) → meetsStrip (stripOf K w0) (w .u0) (w .v0) d ≡ meets K w d
+  above : (m : Moment) (limit : ℤ) → leZ (negℤ limit -ℤ spanAt m w0 .greatest) (changed (edgeOf m w0 limit) i j) ≡ leZ (negℤ limit) (spanAt m w .greatest)
+  above m limit =
+      sym (sum-above (changed (edgeOf m w0 limit) i j) (spanAt m w0 .greatest) (negℤ limit))
+      ∙ ap (leZ (negℤ limit)) (ap (λ (x : ℤ). x +ℤ spanAt m w0 .greatest) (low-corner m limit) ∙ at maxZ max-add i j w w0 s m)
+
+  both : (K : Kernel) → joined (spanAt (momentOf K (w0 .t0)) w) (spanAt (momentOf K (w0 .t1)) w) ≡ spanOver K w
+  both K = ap₂ (λ (t t′ : ℕ). joined (spanAt (momentOf K t) w) (spanAt (momentOf K t′) w)) (sym (s .t0)) (sym (s .t1)) ∙ span-over K w
+
+  pub strip-meets : (K : Kernel) (d : ℕ) → meetsStrip (stripOf K w0 d) i j ≡ meets K w d
   unfolding meetsStrip meets
-  strip-meets K d = ap (λ (x : Span). leZ (x .least) (pos (d * unit)) && leZ (negℤ (pos (d * unit))) (x .greatest)) (strip-moved K)
+  strip-meets K d =
+      let limit = pos (d * unit) in
+      let start = momentOf K (w0 .t0) in
+      let end = momentOf K (w0 .t1) in
+      ap₂ _&&_
+      (ap₂ _||_ (below start limit) (below end limit) ∙ sym (min-test (spanAt start w .least) (spanAt end w .least) limit))
+      (ap₂ _||_ (above start limit) (above end limit) ∙ sym (max-test (spanAt start w .greatest) (spanAt end w .greatest) (negℤ limit)))
+      ∙ ap (λ (x : Span). leZ (x .least) limit && leZ (negℤ limit) (x .greatest)) (both K)
 
 -- ---- every step of a box fits
 
-module _ {K : Kernel} {w w0 : Cell} (s : Shifted w w0) (small : Small K) (h : InParts w) (g : InParts w0) where
-  moves : {t : ℕ} → t ≤ parts → Moves (edgeOf (momentOf K t) w0) (w .u0) (w .v0)
+pub limit-within : {d : ℕ} → d ≤ 65_536 → Within limitMost (pos (d * unit))
+limit-within {d} h = within-more (omega arith) (within-pos (d * unit))
+
+pub record Edges (m : Moment) (w : Cell) (limit : ℤ) : Type 0 where
+  pub by-u : Within termMost (edgeOf m w limit .u)
+  pub by-v : Within termMost (edgeOf m w limit .v)
+  pub from : Within (limitMost + gapMost) (edgeOf m w limit .from)
+  pub to : Within (limitMost + gapMost) (edgeOf m w limit .to)
+
+pub edges-within : {m : Moment} {w : Cell} {limit : ℤ} → SmallMoment blendMost m → InParts w → Within limitMost limit → Edges m w limit
+edges-within f g h =
+    let s = span-within f g in
+    record {
+      by-u = term-within (g .u1) (f .b);
+      by-v = term-within (g .v1) (f .c);
+      from = within-sub (within-neg h) (s .greatest);
+      to = within-sub h (s .least);
+    }
+
+module _ {i j : ℕ} {K : Kernel} {w w0 : Cell} {d : ℕ} (s : Shifted i j w w0) (small : Small K) (h : InParts w) (g : InParts w0) (most : d ≤ 65_536) (i-most : i ≤ parts) (j-most : j ≤ parts) where
+  moves : {t : ℕ} → t ≤ parts → Moves (edgeOf (momentOf K t) w0 (pos (d * unit))) i j
   moves {t} ht =
       let m = moment-small small ht in
-      let e = edge-moved w w0 s (momentOf K t) in
+      let e = edges-within m g (limit-within most) in
       record {
-        u-most = h .u0;
-        v-most = h .v0;
-        b = m .b;
-        c = m .c;
-        least = span-within m g .least;
-        greatest = span-within m g .greatest;
-        least-moved = subst (λ (x : Span). Within gapMost (x .least)) (sym e) (span-within m h .least);
-        greatest-moved = subst (λ (x : Span). Within gapMost (x .greatest)) (sym e) (span-within m h .greatest);
+        u-most = i-most;
+        v-most = j-most;
+        by-u = e .by-u;
+        by-v = e .by-v;
+        along-u = subst (Within termMost) (sym (product i (w0 .u1) (w .u0) (s .u0) (momentOf K t .b))) (term-within (h .u0) (m .b));
+        along-v = subst (Within termMost) (sym (product j (w0 .v1) (w .v0) (s .v0) (momentOf K t .c))) (term-within (h .v0) (m .c));
+        from = e .from;
+        to = e .to;
       }
+    where
+      product : (i n lo : ℕ) → i * n ≡ lo → (b : ℤ) → pos i *ℤ (pos n *ℤ b) ≡ pos lo *ℤ b
+      product i n lo e b = ring (pos i ∷ pos n ∷ b ∷ []) (var 0 :* (var 1 :* var 2)) (var 0 :* var 1 :* var 2) tt ∙ ap (λ (x : ℕ). pos x *ℤ b) e
 
-  pub moves-strip : MovesStrip (stripOf K w0) (w .u0) (w .v0)
+  pub moves-strip : MovesStrip (stripOf K w0 d) i j
   moves-strip = record { start = moves (g .t0); end = moves (g .t1) }
 
 -- ---- a box of a level, with what its t index shares
 
-pub record Ready (p : Pair) (k i : Three) (s : Slab) (u v : ℕ) : Type 0 where
-  pub x : MovesStrip (s .x) u v
-  pub y : MovesStrip (s .y) u v
-  pub z : MovesStrip (s .z) u v
-  pub by : (meetsStrip (s .z) u v (p .dz) && (meetsStrip (s .x) u v (p .dx) && meetsStrip (s .y) u v (p .dy))) ≡ survives (asked p) k i
+pub record Ready (p : Pair) (k i : Three) (s : Slab) : Type 0 where
+  pub x : MovesStrip (s .x) (i .u) (i .v)
+  pub y : MovesStrip (s .y) (i .u) (i .v)
+  pub z : MovesStrip (s .z) (i .u) (i .v)
+  pub by : (meetsStrip (s .z) (i .u) (i .v) && (meetsStrip (s .x) (i .u) (i .v) && meetsStrip (s .y) (i .u) (i .v))) ≡ survives (asked p) k i
 
 pub first-of-row : {k i : Three} → InGrid k i → InGrid k (record { t = i .t; u = 0; v = 0 })
 first-of-row g = record { t = g .t; u = omega (arith, g .u); v = omega (arith, g .v) }
 
 module _ (p : Pair) (k i : Three) (r : Ranged p) (h : Shallow k) (g : InGrid k i) where
-  ready-in : Ready p k i (slabOf p k (i .t)) (low (k .u) (i .u)) (low (k .v) (i .v))
+  index-most : (d n : ℕ) → d ≤ 20 → n < 2 ^ d → n ≤ parts
+  index-most d n f l = omega (arith, pow-mono f)
+
+  ready-in : Ready p k i (slabOf p k (i .t))
   unfolding slabOf
   ready-in =
       let w = in-parts-of h g in
       let w0 = in-parts-of h (first-of-row g) in
       let s = shifted k i in
+      let u = index-most (k .u) (i .u) (h .u) (g .u) in
+      let v = index-most (k .v) (i .v) (h .v) (g .v) in
       record {
-        x = moves-strip s (r .x) w w0;
-        y = moves-strip s (r .y) w w0;
-        z = moves-strip s (r .z) w w0;
+        x = moves-strip s (r .x) w w0 (r .dx) u v;
+        y = moves-strip s (r .y) w w0 (r .dy) u v;
+        z = moves-strip s (r .z) w w0 (r .dz) u v;
         by =
-            ap₂ _&&_ (strip-meets (cellOf k i) (rowOf k (i .t)) s (p .z) (p .dz))
-            (ap₂ _&&_ (strip-meets (cellOf k i) (rowOf k (i .t)) s (p .x) (p .dx)) (strip-meets (cellOf k i) (rowOf k (i .t)) s (p .y) (p .dy)))
+            ap₂ _&&_ (strip-meets (i .u) (i .v) (cellOf k i) (rowOf k (i .t)) s (p .z) (p .dz))
+            (ap₂ _&&_ (strip-meets (i .u) (i .v) (cellOf k i) (rowOf k (i .t)) s (p .x) (p .dx)) (strip-meets (i .u) (i .v) (cellOf k i) (rowOf k (i .t)) s (p .y) (p .dy)))
             ∙ by-height p k i;
       }
 
-  pub ready : (s : Slab) (u v : ℕ) → s ≡ slabOf p k (i .t) → u ≡ low (k .u) (i .u) → v ≡ low (k .v) (i .v) → Ready p k i s u v
-  ready s u v e f d = rw (e, f, d) ready-in
+  pub ready : (s : Slab) → s ≡ slabOf p k (i .t) → Ready p k i s
+  ready s e = rw e ready-in

@@ -1,32 +1,30 @@
-// What all boxes of a level with one t index share, so that a box costs a few products: at a moment F over a cell is F over the cell at u and v index 0,
-// and u·B + v·C of the low corner more.
+// What all boxes of a level with one t index share, so that a box costs four products an axis: at a moment F over a cell is F over the cell at u and v
+// index 0, and as much more for each index.
 ghost use mathlib.Core.Path.{_≡_};
 ghost use Prim.Native.Nat.{_^_, _<_, _≤_};
+ghost use Rattle.whole.specs.Within.{Within};
 ghost use Rattle.rules.specs.Search.{survives};
 ghost use Rattle.kernel.specs.Kernel.{asked};
 ghost use Rattle.kernel.specs.Ranges.{Small, Ranged, Shallow, InGrid};
-ghost use Rattle.gap.specs.Slab.{edgeOf, stripOf, slabOf, moved, meetsStrip, Moves, MovesStrip};
+ghost use Rattle.gap.specs.Slab.{edgeOf, stripOf, slabOf, changed, meetsStrip, limitMost, Moves, MovesStrip};
 ghost use Rattle.gap.specs.Steps.{InParts, SmallMoment, blendMost};
 use super::cell::Cell;
 use super::cell::cell_of;
-use super::cell::low;
 use super::measure::UNIT;
-use super::measure::comes_within;
 use super::span::Moment;
-use super::span::Span;
 use super::span::at_moment;
-use super::span::join;
 use super::span::over_face;
 use kernel::Kernel;
 use kernel::Pair;
 use rules::Three;
 
-// An axis at a moment: B and C, and the least and the greatest of F over the cell at u and v index 0.
+// An axis at a moment: how F changes with each u index and each v index, and from where to where these changes may lead for F to come within the
+// separation somewhere over a cell.
 pub struct Edge {
-    pub b: i64,
-    pub c: i64,
-    pub least: i64,
-    pub greatest: i64,
+    pub u: i64,
+    pub v: i64,
+    pub from: i64,
+    pub to: i64,
 }
 
 // An axis from the low to the high end of a t index.
@@ -42,25 +40,26 @@ pub struct Slab {
     pub z: Strip,
 }
 
-fn edge_of(m: Moment, w: Cell) -> Edge
-    requires { ⌜ SmallMoment blendMost m × InParts w ⌝ }
-    ensures { λ r. ⌜ r ≡ edgeOf m w ⌝ }
+// By the cell at u and v index 0.
+fn edge_of(m: Moment, w: Cell, limit: i64) -> Edge
+    requires { ⌜ SmallMoment blendMost m × (InParts w × Within limitMost limit) ⌝ }
+    ensures { λ r. ⌜ r ≡ edgeOf m w limit ⌝ }
 {
     let s = over_face(m, w);
-    Edge {
-        b: m.b,
-        c: m.c,
-        least: s.least,
-        greatest: s.greatest,
-    }
+    let u = w.u1 as i64 * m.b;
+    let v = w.v1 as i64 * m.c;
+    let from = -limit - s.greatest;
+    let to = limit - s.least;
+    Edge { u, v, from, to }
 }
 
-fn strip_of(k: Kernel, w: Cell) -> Strip
-    requires { ⌜ Small k × InParts w ⌝ }
-    ensures { λ r. ⌜ r ≡ stripOf k w ⌝ }
+fn strip_of(k: Kernel, w: Cell, d: u64) -> Strip
+    requires { ⌜ Small k × (InParts w × (d ≤ 65536)) ⌝ }
+    ensures { λ r. ⌜ r ≡ stripOf k w d ⌝ }
 {
-    let start = edge_of(at_moment(k, w.t0), w);
-    let end = edge_of(at_moment(k, w.t1), w);
+    let limit = (d * UNIT) as i64;
+    let start = edge_of(at_moment(k, w.t0), w, limit);
+    let end = edge_of(at_moment(k, w.t1), w, limit);
     Strip { start, end }
 }
 
@@ -70,9 +69,9 @@ pub fn slab_at(p: Pair, k: Three, t: u64) -> Slab
     ensures { λ r. ⌜ r ≡ slabOf p k t ⌝ }
 {
     let w = cell_of(k, Three { t, u: 0, v: 0 });
-    let x = strip_of(p.x, w);
-    let y = strip_of(p.y, w);
-    let z = strip_of(p.z, w);
+    let x = strip_of(p.x, w, p.dx);
+    let y = strip_of(p.y, w, p.dy);
+    let z = strip_of(p.z, w, p.dz);
     Slab { t, x, y, z }
 }
 
@@ -84,26 +83,22 @@ pub fn renewed(p: Pair, k: Three, t: u64, s: Slab) -> Slab
     if s.t == t { s } else { slab_at(p, k, t) }
 }
 
-// F over a cell at a moment, by its low corner.
-fn along(e: Edge, u: u64, v: u64) -> Span
+// How F over a cell differs from that over the cell at u and v index 0.
+fn along(e: Edge, u: u64, v: u64) -> i64
     requires { ⌜ Moves e u v ⌝ }
-    ensures { λ r. ⌜ r ≡ moved e u v ⌝ }
+    ensures { λ r. ⌜ r ≡ changed e u v ⌝ }
 {
-    let x = u as i64 * e.b + v as i64 * e.c;
-    let m = x + e.least;
-    let g = x + e.greatest;
-    Span {
-        least: m,
-        greatest: g,
-    }
+    u as i64 * e.u + v as i64 * e.v
 }
 
-fn meets_strip(s: Strip, u: u64, v: u64, d: u64) -> bool
-    requires { ⌜ MovesStrip s u v × (d ≤ 65536) ⌝ }
-    ensures { λ r. ⌜ r ≡ meetsStrip s u v d ⌝ }
+// The least over both moments is within the separation where that over one of them is, and so is the greatest.
+fn meets_strip(s: Strip, u: u64, v: u64) -> bool
+    requires { ⌜ MovesStrip s u v ⌝ }
+    ensures { λ r. ⌜ r ≡ meetsStrip s u v ⌝ }
 {
-    let w = join(along(s.start, u, v), along(s.end, u, v));
-    comes_within(w, (d * UNIT) as i64)
+    let x = along(s.start, u, v);
+    let y = along(s.end, u, v);
+    ((x <= s.start.to) | (y <= s.end.to)) & ((s.start.from <= x) | (s.end.from <= y))
 }
 
 // Whether a box survives: z first, then x, then y, and the first axis that misses ends it.
@@ -111,11 +106,9 @@ pub fn survives_in(p: Pair, k: Three, s: Slab, i: Three) -> bool
     requires { ⌜ Ranged p × (Shallow k × (InGrid k i × (s ≡ slabOf p k (i .t)))) ⌝ }
     ensures { λ r. ⌜ r ≡ survives (asked p) k i ⌝ }
 {
-    let u = low(k.u, i.u);
-    let v = low(k.v, i.v);
-    if meets_strip(s.z, u, v, p.dz) {
-        if meets_strip(s.x, u, v, p.dx) {
-            meets_strip(s.y, u, v, p.dy)
+    if meets_strip(s.z, i.u, i.v) {
+        if meets_strip(s.x, i.u, i.v) {
+            meets_strip(s.y, i.u, i.v)
         } else {
             false
         }

@@ -1,11 +1,8 @@
 -- `gap::slab::meets_strip` meets its contract.
-use borrow.Author.Needs.{needs}
-use Prim.Native.Nat.{_*_}
-use native.Mathlib.Omega.{arith}
-use Rattle.whole.specs.Within.{within-pos, within-more}
-use Rattle.rules.specs.Search.{unit}
+use mir.Facts.{toZ-ofZ}
+use Rattle.whole.specs.Within.{within-add, fits}
 use Rattle.gap.specs.Slab.{meetsStrip}
-use Rattle.gap.specs.Steps.{read-units}
+use borrow.Author.Needs.{needs}
 use Rattle.gap.proofs.slab.meets_strip.Statement.{statement}
 use Rattle.gap.proofs.slab.meets_strip.Tie as tie
 
@@ -15,36 +12,24 @@ along-requires c κs = search needs
 along-requires-2 : tie.Need-along-requires-2
 along-requires-2 c κs = search needs
 
-join-requires : tie.Need-join-requires
-join-requires c κs = search needs
-
-mul-comes-within : tie.Need-mul-comes-within
-mul-comes-within c = search needs
-
-cast-comes-within : tie.Need-cast-comes-within
-cast-comes-within c = search needs
-
-comes-within-requires : tie.Need-comes-within-requires
-comes-within-requires c κs =
-    let d = c .before .before .before .args .d in
-    let h = c .before .before .before .pre .1 in
-    rw (read-units {n = d} (omega arith)) (within-more (omega arith) (within-pos (d * unit)))
-
 returns : tie.Need-returns
 unfolding meetsStrip
 returns c =
-    let d = c .before .before .before .before .args .d in
-    let h = c .before .before .before .before .pre .1 in
-    rw (c .before .join .ensures, c .before .before .along2 .ensures, c .before .before .before .along .ensures, read-units {n = d} (omega arith)) at (c .comes-within .ensures)
+    let s = c .before .before .before .before .before .before .before .before .before .before in
+    let start = s .pre .start in
+    let end = s .pre .end in
+    let x = within-add (start .along-u) (start .along-v) in
+    let y = within-add (end .along-u) (end .along-v) in
+    rw (
+      c .before .before .before .before .before .before .before .before .before .along .ensures,
+      c .before .before .before .before .before .before .before .before .along2 .ensures,
+      toZ-ofZ (fits tt x),
+      toZ-ofZ (fits tt y),
+      toZ-ofZ (fits tt (start .to)),
+      toZ-ofZ (fits tt (end .to)),
+      toZ-ofZ (fits tt (start .from)),
+      toZ-ofZ (fits tt (end .from)),
+    )
 
 pub meets-strip-spec : {M : Type 1} → statement M
-meets-strip-spec =
-    tie.close
-    (tie.spec
-    along-requires
-    along-requires-2
-    join-requires
-    mul-comes-within
-    cast-comes-within
-    comes-within-requires
-    returns)
+meets-strip-spec = tie.close (tie.spec along-requires along-requires-2 returns)
