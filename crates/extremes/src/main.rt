@@ -1,16 +1,19 @@
 // The box's questions at the extremes of document 01's numbers. A line: whether the box survives; the low corner's t, u, v and excess;
 // whether it is near; the parameter to split in (0, 1, 2 for t, u, v); whether the box is inside. L is 1,048,576, the largest coordinate.
 ghost use Prim.Native.Nat.{_≤_};
-ghost use Rattle.kernel.specs.Ranges.{Shallow, InGrid};
+ghost use Rattle.kernel.specs.Ranges.{Ranged, Shallow, InGrid};
 use gap::corner;
 use gap::inside;
 use gap::near;
 use gap::prepare;
+use gap::slab::slab_at;
+use gap::slab::survives_in;
 use gap::split;
-use gap::survives;
 use io::print_decimal;
 use io::write_all;
+use kernel::Pair;
 use refusals::search_refusal;
+use rules::Corner;
 use rules::Parameter;
 use rules::Record;
 use rules::Three;
@@ -77,6 +80,28 @@ fn falling(points: [i32; 24], from: i32, to: i32) -> [i32; 24] {
     q
 }
 
+// What the questions of a box come to.
+pub struct Answers {
+    pub survives: bool,
+    pub corner: Corner,
+    pub near: bool,
+    pub split: Parameter,
+    pub inside: bool,
+}
+
+fn ask(p: Pair, k: Three, i: Three) -> Answers
+    requires { ⌜ Ranged p × (Shallow k × InGrid k i) ⌝ }
+{
+    let corner = corner(p, k, i);
+    Answers {
+        survives: survives_in(p, k, slab_at(p, k, i.t), i),
+        corner,
+        near: near(p, k, i, corner.excess),
+        split: split(p, k),
+        inside: inside(p, k, i),
+    }
+}
+
 // One line: the box at depths kt, ku, kv and indices t, u, v.
 fn show(r: Record, kt: u64, ku: u64, kv: u64, t: u64, u: u64, v: u64)
     requires { ⌜ Shallow (record { t = kt; u = ku; v = kv }) × InGrid (record { t = kt; u = ku; v = kv }) (record { t = t; u = u; v = v }) ⌝ }
@@ -88,16 +113,16 @@ fn show(r: Record, kt: u64, ku: u64, kv: u64, t: u64, u: u64, v: u64)
     };
     let i = Three { t: t, u: u, v: v };
     if search_refusal(r, 2) == 0 {
-        let p = prepare(r, 2);
-        let c = corner(p, k, i);
-        print_decimal(1, flag(survives(p, k, i)));
-        more(c.t as u64);
-        more(c.u as u64);
-        more(c.v as u64);
-        more(c.excess as u64);
-        more(flag(near(p, k, i)));
-        more(numbered(split(p, k)));
-        more(flag(inside(p, k, i)));
+        let a = ask(prepare(r, 2), k, i);
+        print_decimal(1, flag(a.survives));
+        more(a.corner.t as u64);
+        more(a.corner.u as u64);
+        more(a.corner.v as u64);
+        more(a.corner.excess as u64);
+        more(flag(a.near));
+        let split = a.split;
+        more(numbered(split));
+        more(flag(a.inside));
     }
     write_all(1, b"\n");
 }

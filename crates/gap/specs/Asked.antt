@@ -9,7 +9,8 @@ use lib.IntN.{natAbs, _-ℤ_}
 use Rattle.whole.specs.Defs.{minZ, maxZ}
 use Rattle.rules.specs.declared.Three.{Three}
 use Rattle.rules.specs.Gap.{Axis, X, Y, Z}
-use Rattle.rules.specs.Search.{overCorners, least, greatest, survives, excess, width, onAll, largest, unit}
+use Rattle.rules.specs.declared.Corner.{Corner}
+use Rattle.rules.specs.Search.{Query, overCorners, least, greatest, survives, corner, excess, width, onAll, largest, unit}
 use Rattle.kernel.specs.declared.Pair.{Pair}
 use Rattle.kernel.specs.Kernel.{asked, onAxis, apartOn}
 use Rattle.gap.specs.Corners.{over, cellOf, meets, excessOf, isThin}
@@ -28,6 +29,11 @@ height-first false true true = refl
 height-first false true false = refl
 height-first false false true = refl
 height-first false false false = refl
+
+-- what is recorded has the excess at its corner
+pub recorded : (q : Query) (k i : Three) (c : Corner) → c ≡ corner q k i → c .excess ≡ excess q k i
+unfolding corner
+recorded q k i c e = ap (λ (c : Corner). c .excess) e
 
 leb-max : (x y n : ℕ) → (leb x n && leb y n) ≡ leb (max x y) n
 leb-max x y n = go (leb x n) (leb y n) refl refl

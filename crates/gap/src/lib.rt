@@ -1,7 +1,7 @@
 // Everything that the search asks about one box of a pair.
 ghost use mathlib.Core.Path.{_≡_};
 ghost use Rattle.rules.specs.Refusals.{searchRefusal};
-ghost use Rattle.rules.specs.Search.{query, origin, survives, inside, corner, near, split};
+ghost use Rattle.rules.specs.Search.{query, origin, survives, inside, corner, excess, near, split};
 ghost use Rattle.kernel.specs.Kernel.{asked};
 ghost use Rattle.kernel.specs.Ranges.{Ranged, Shallow, InGrid};
 ghost use Rattle.gap.specs.Prepared.{Prepared};
@@ -10,7 +10,6 @@ use cell::cell_of;
 use cell::low;
 use kernel::Pair;
 use measure::excess;
-use measure::meets;
 use measure::meets_whole;
 use measure::thin;
 use points::kernel_at;
@@ -31,23 +30,6 @@ mod points; // points.rt: the kernel of an axis, from the coordinates of the eig
 pub mod slab; // slab.rt: what all boxes of a t index share
 pub mod span; // span.rt: the least and the greatest of F over a cell's corners, on one axis
 mod weigh; // weigh.rt: what a split in each parameter is worth
-
-// Whether the box survives: z first, then x, then y, and the first axis that misses ends it.
-pub fn survives(p: Pair, k: Three, i: Three) -> bool
-    requires { ⌜ Ranged p × (Shallow k × InGrid k i) ⌝ }
-    ensures { λ r. ⌜ r ≡ survives (asked p) k i ⌝ }
-{
-    let w = cell_of(k, i);
-    if meets(p.z, w, p.dz) {
-        if meets(p.x, w, p.dx) {
-            meets(p.y, w, p.dy)
-        } else {
-            false
-        }
-    } else {
-        false
-    }
-}
 
 // Whether the whole cube of a record that is not refused survives: level 0 has no other box. Only the axes that are reached are worked out.
 pub fn survives_whole(r: Record, words: usize) -> bool
@@ -98,13 +80,16 @@ pub fn corner(p: Pair, k: Three, i: Three) -> Corner
     }
 }
 
-// Whether the first survivor of a level is close enough: excess 0, or width within the tolerance.
-pub fn near(p: Pair, k: Three, i: Three) -> bool
-    requires { ⌜ Ranged p × (Shallow k × InGrid k i) ⌝ }
+// Whether the first survivor of a level is close enough: its excess e is 0, or its width within the tolerance.
+pub fn near(p: Pair, k: Three, i: Three, e: u32) -> bool
+    requires { ⌜ (Ranged p × (Shallow k × InGrid k i)) × (e ≡ excess (asked p) k i) ⌝ }
     ensures { λ r. ⌜ r ≡ near (asked p) k i ⌝ }
 {
+    if e == 0 {
+        return true;
+    }
     let w = cell_of(k, i);
-    if excess(p, w) == 0 { true } else { thin(p, w) }
+    thin(p, w)
 }
 
 // The parameter that every survivor of a level is split in.

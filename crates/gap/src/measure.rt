@@ -31,16 +31,7 @@ pub fn comes_within(s: Span, limit: i64) -> bool
     (s.least <= limit) & (-limit <= s.greatest)
 }
 
-// Whether F comes within d of 0 on one axis, as far as the corners tell.
-pub fn meets(k: Kernel, w: Cell, d: u64) -> bool
-    requires { ⌜ Small k × (InParts w × (d ≤ 65536)) ⌝ }
-    ensures { λ r. ⌜ r ≡ meets k w d ⌝ }
-{
-    let s = over_corners(k, w);
-    comes_within(s, (d * UNIT) as i64)
-}
-
-// The same over the whole cube, where whole units do.
+// Whether F comes within d of 0 on one axis over the whole cube, where whole units do.
 pub fn meets_whole(k: Kernel, d: u64) -> bool
     requires { ⌜ Small k × (d ≤ 65536) ⌝ }
     ensures { λ r. ⌜ r ≡ meets k wholeCube d ⌝ }

@@ -64,7 +64,7 @@ fn first_survivor(p: Pair, k: Three, b: Three, count: u32) -> Seen
     ensures { λ r. ⌜ FirstIs (asked p) k b count r ⌝ }
 {
     let c = gap::corner(p, k, b);
-    if gap::near(p, k, b) {
+    if gap::near(p, k, b, c.excess) {
         return Seen::Ends(Answer::Met {
             t: c.t,
             u: c.u,
@@ -120,7 +120,7 @@ fn first_slab(p: Pair, k: Three, queue: &[u64], n: usize) -> Slab
     slab_at(p, k, b.t)
 }
 
-// CheckIs a level's boxes in order, and keeps the survivors at the front.
+// Checks a level's boxes in order, and keeps the survivors at the front.
 fn check_level(p: Pair, queue: &mut [u64], l: Level) -> Step
     requires { ⌜ Fine p (now queue) l ⌝ }
     ensures { λ r. ⌜ CheckIs p l (now (queue .entry)) (now (queue .exit)) r ⌝ }

@@ -1,6 +1,7 @@
 -- Each way out is a law of `Checking`.
 use mathlib.Core.Path.{sym, _∙_}
 use Rattle.kernel.specs.Kernel.{asked}
+use Rattle.gap.specs.Asked.{recorded}
 use Rattle.search.proofs.Checking.{first-met, first-floor, first-goes}
 use borrow.Author.Needs.{needs}
 use Rattle.search.proofs.first_survivor.Statement.{statement}
@@ -14,7 +15,7 @@ corner-requires c κs =
 near-requires : tie.Need-near-requires
 near-requires c κs =
     let s = c .before in
-    (s .pre .ranged, (s .pre .shallow, s .pre .grid))
+    ((s .pre .ranged, (s .pre .shallow, s .pre .grid)), recorded (asked (s .args .p)) (s .args .k) (s .args .b) (c .corner .result) (c .corner .ensures))
 
 returns : tie.Need-returns
 returns c =
