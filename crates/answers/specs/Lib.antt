@@ -3,3 +3,4 @@ pub mod Eight
 pub mod Walk
 pub mod Step
 pub mod Doing
+pub mod Asking

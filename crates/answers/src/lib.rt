@@ -8,13 +8,15 @@ ghost use Rattle.rules.specs.QueryFile.{recordSize, put};
 ghost use Rattle.answers.specs.Eight.{eight};
 ghost use Rattle.answers.specs.Step.{isAnswered, Answering, Answered};
 ghost use Rattle.answers.specs.Walk.{tellsFrom, queueFrom, One, Every, Counted};
+use asking::id_at;
+use asking::search_at;
 use queries::open_file;
-use queries::record::decode;
 use queries::record::place_of;
 use rules::Answer;
 use rules::Opened;
 use rules::Told;
-use search::search_in;
+
+mod asking; // asking.rt: a record asked where it stands in a file
 
 // ---- an answer in numbers
 
@@ -155,9 +157,8 @@ fn answer_at(
     requires { ⌜ Answering edition (now file) at (now queue) clean (now out) to ⌝ }
     ensures { λ r. ⌜ Answered edition (now (file .entry)) at (now (queue .entry)) (now (queue .exit)) clean (now (out .entry)) to (now (out .exit)) r ⌝ }
 {
-    let r = decode(file, at, edition);
-    let answer = search_in(r, queue, clean);
-    write_eight(out, to, r.id, answer);
+    let answer = search_at(file, edition, at, queue, clean);
+    write_eight(out, to, id_at(file, at, edition), answer);
     clean | is_answered(answer)
 }
 

@@ -25,7 +25,7 @@ use Rattle.rules.specs.declared.Ask.{Ask}
 use Rattle.rules.specs.Gap.{Axis, X, Y, Z, place, separationOn}
 use Rattle.rules.specs.Refusals.{searchRefusal}
 use Rattle.rules.specs.Answers.{told}
-use Rattle.rules.specs.Search.{query, origin, survives, search, unless, run, levels, check, oneBox, afterLevel}
+use Rattle.rules.specs.Search.{search}
 use Rattle.rules.specs.Bodies.{Body, Asked, sumOf, counted, heard, hearAll, face, edges, fifteen, cornerPlace, askOf, askedFrom, pairQueries}
 use Rattle.kernel.specs.declared.Kernel.{Kernel}
 use Rattle.gap.specs.declared.span.Span.{Span}
@@ -35,6 +35,7 @@ use Rattle.gap.specs.Prepared.{axisOf, misses-any}
 use Rattle.kernel.specs.Ranges.{Small}
 use Rattle.whole.specs.Within.{Within, within-sub, within-pos, within-more}
 use Rattle.refusals.specs.Accepted.{accepted-search}
+use Rattle.search.specs.Whole.{search-clear}
 use Rattle.triangles.specs.Members.{All, askAt}
 use Rattle.bodies.specs.Asking.{body}
 use Rattle.bodies.specs.Walk.{positions}
@@ -387,10 +388,6 @@ corners w a0 a1 b0 b1 i j axis =
 abbrev Each : (Ask → Type 0) → List Ask → Type 0
 Each P [] = Unit
 Each P (k ∷ ks) = P k × Each P ks
-
-search-clear : (r : Record) (words : ℕ) → searchRefusal r words ≡ 0 → survives (query r words) origin origin ≡ false → search r words ≡ Clear 1
-unfolding search unless run levels check oneBox afterLevel
-search-clear r words e f = let b : eqb 0 (r .budget) ≡ false = ne-eqb 0 (r .budget) (omega (arith, accepted-search r words e .query .budget-least)) in rw (e, b, f)
 
 module _ (w : Terms) (a0 a1 b0 b1 : List ℤ) (i j words : ℕ) where
   one-clear : (axis : Axis) (k : Ask) → Misses w a0 a1 b0 b1 i j axis (corners w a0 a1 b0 b1 i j axis) (separationIn w axis) k → searchRefusal (ask w a0 a1 b0 b1 i j axis k) words ≡ 0

@@ -11,6 +11,13 @@ use rules::BodyAnswer;
 use rules::Terms;
 use whole::minus;
 
+// Where x, y and z of a point stand.
+const X: usize = 0;
+
+const Y: usize = 1;
+
+const Z: usize = 2;
+
 // A triangle on one axis as a kernel of its own, from the coordinate at a place: its cube is what the triangle reaches, its parallelogram's fourth corner too.
 fn triangle_at(s: &[i32], e: &[i32], at: usize) -> Kernel
     requires { ⌜ (at + 7 ≤ length (now s)) × (at + 7 ≤ length (now e)) ⌝ }
@@ -60,11 +67,11 @@ pub fn are_distant(
     requires { ⌜ OfPair w (now a0) (now a1) (now b0) (now b1) i j (now queue) sofar ⌝ }
     ensures { λ r. ⌜ (r ≡ true → Distant w (now (a0 .entry)) (now (a1 .entry)) (now (b0 .entry)) (now (b1 .entry)) i j) ⌝ }
 {
-    if apart_on(a0, a1, 9 * i + 2, b0, b1, 9 * j + 2, w.dz) {
+    if apart_on(a0, a1, 9 * i + Z, b0, b1, 9 * j + Z, w.dz) {
         return true;
     }
-    if apart_on(a0, a1, 9 * i + 0, b0, b1, 9 * j + 0, w.dx) {
+    if apart_on(a0, a1, 9 * i + X, b0, b1, 9 * j + X, w.dx) {
         return true;
     }
-    apart_on(a0, a1, 9 * i + 1, b0, b1, 9 * j + 1, w.dy)
+    apart_on(a0, a1, 9 * i + Y, b0, b1, 9 * j + Y, w.dy)
 }

@@ -2,8 +2,6 @@
 ghost use mathlib.Core.Path.{_≡_};
 ghost use lib.ListN.{length};
 ghost use Rattle.rules.specs.declared.BodyAnswer.the-variants.{Clear};
-ghost use Rattle.rules.specs.Numbers.{isCoordinate};
-ghost use Rattle.rules.specs.Refusals.{every};
 ghost use Rattle.rules.specs.Bodies.{isBody, pairQueries, queriesOf, bodyRefusal};
 ghost use Rattle.bodies.specs.Asking.{body};
 ghost use Rattle.bodies.specs.Telling.{Answered, Tells};
@@ -13,7 +11,7 @@ use apart::are_distant;
 use asking::query_at;
 use hearing::counted;
 use hearing::heard;
-use refusals::is_coordinate;
+use refusals::are_coordinates;
 use refusals::search_refusal;
 use rules::BodyAnswer;
 use rules::Terms;
@@ -27,18 +25,6 @@ mod hearing; // hearing.rt: what the queries come to
 mod telling; // telling.rt: an answer in eight numbers
 
 // ---- every query checked, in one pass over the coordinates
-
-fn are_positions(s: &[i32]) -> bool
-    ensures { λ r. ⌜ r ≡ every isCoordinate (now (s .entry)) ⌝ }
-{
-    let mut all = true;
-    let mut i = 0;
-    while i < s.len() {
-        all = all & is_coordinate(s[i]);
-        i += 1;
-    }
-    all
-}
 
 // A count past 256 goes first: nine times it must fit.
 fn is_body(count: usize, start: &[i32], end: &[i32]) -> bool
@@ -71,7 +57,8 @@ pub fn body_refusal(
     if number != 0 {
         return number;
     }
-    let right = (are_positions(a0) & are_positions(a1)) & (are_positions(b0) & are_positions(b1));
+    let right = (are_coordinates(a0) & are_coordinates(a1))
+        & (are_coordinates(b0) & are_coordinates(b1));
     if right { 0 } else { 3 }
 }
 

@@ -37,11 +37,14 @@ abbrev pub endOf : Bool → Four → Moment
 endOf true f = record { a = f .p0 -ℤ f .p1; b = f .p1 -ℤ f .p2; c = f .p1 -ℤ f .p3 }
 endOf false f = record { a = f .p0 -ℤ f .p2; b = f .p1 -ℤ f .p0; c = f .p2 -ℤ f .p3 }
 
-abbrev pub kernelAt : List ℤ → ℕ → Bool → Bool → Kernel
-kernelAt points at turn face = both (endOf face (sidedFour turn face (fourOf points at))) (endOf face (sidedFour turn face (fourOf points (at + 12))))
+abbrev pub kernelBy : Four → Four → Bool → Bool → Kernel
+kernelBy f g turn face = both (endOf face (sidedFour turn face f)) (endOf face (sidedFour turn face g))
   where
     both : Moment → Moment → Kernel
     both s e = record { a0 = s .a; b0 = s .b; c0 = s .c; a1 = e .a; b1 = e .b; c1 = e .c }
+
+abbrev pub kernelAt : List ℤ → ℕ → Bool → Bool → Kernel
+kernelAt points at = kernelBy (fourOf points at) (fourOf points (at + 12))
 
 -- ---- it is the written one
 
@@ -95,8 +98,11 @@ end-small false n = record { a = within-sub (n .p0) (n .p2); b = within-sub (n .
 sided-near : (turn face : Bool) {f : Four} → Near f → Near (sidedFour turn face f)
 sided-near turn face n = record { p0 = n .p0; p1 = turned-within (turn && face) (n .p1); p2 = turned-within turn (n .p2); p3 = turned-within turn (n .p3) }
 
-pub kernel-small : (points : List ℤ) → Coordinates points → (at : ℕ) (turn face : Bool) → Small (kernelAt points at turn face)
-kernel-small points h at turn face =
-    let s = end-small face (sided-near turn face (four-near points h at)) in
-    let e = end-small face (sided-near turn face (four-near points h (at + 12))) in
+pub kernel-by-small : {f g : Four} → Near f → Near g → (turn face : Bool) → Small (kernelBy f g turn face)
+kernel-by-small n m turn face =
+    let s = end-small face (sided-near turn face n) in
+    let e = end-small face (sided-near turn face m) in
     record { a0 = s .a; b0 = s .b; c0 = s .c; a1 = e .a; b1 = e .b; c1 = e .c }
+
+pub kernel-small : (points : List ℤ) → Coordinates points → (at : ℕ) (turn face : Bool) → Small (kernelAt points at turn face)
+kernel-small points h at = kernel-by-small (four-near points h at) (four-near points h (at + 12))

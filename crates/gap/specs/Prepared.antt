@@ -106,7 +106,7 @@ module _ (r : Record) (words : ℕ) where
   abbrev at : Axis → ℕ → Bool
   at axis d = meets (axisOf r axis) wholeCube d
 
-  whole : (at Z (r .dz) && (at X (r .dx) && at Y (r .dy))) ≡ survives (query r words) origin origin
+  pub whole : (at Z (r .dz) && (at X (r .dx) && at Y (r .dy))) ≡ survives (query r words) origin origin
   whole = by-height (pairOf r words) origin origin ∙ ap (λ (q : Query). survives q origin origin) (pair-asks r words)
 
   module _ {z : Bool} (a : z ≡ at Z (r .dz)) where

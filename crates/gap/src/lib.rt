@@ -1,9 +1,13 @@
 // Everything that the search asks about one box of a pair.
 ghost use mathlib.Core.Path.{_≡_};
+ghost use Prim.Native.Nat.{_≤_};
 ghost use Rattle.rules.specs.Refusals.{searchRefusal};
 ghost use Rattle.rules.specs.Search.{query, origin, survives, inside, corner, excess, near, split};
 ghost use Rattle.kernel.specs.Kernel.{asked};
 ghost use Rattle.kernel.specs.Ranges.{Ranged, Shallow, InGrid};
+ghost use Rattle.gap.specs.Corners.{meets};
+ghost use Rattle.gap.specs.Cube.{wholeCube};
+ghost use Rattle.gap.specs.Points.{Near, kernelBy};
 ghost use Rattle.gap.specs.Prepared.{Prepared};
 use cell::PARTS;
 use cell::cell_of;
@@ -12,7 +16,9 @@ use kernel::Pair;
 use measure::excess;
 use measure::meets_whole;
 use measure::thin;
+use points::Four;
 use points::kernel_at;
+use points::kernel_of;
 use rules::Corner;
 use rules::Parameter;
 use rules::Record;
@@ -26,10 +32,18 @@ use weigh::winner;
 mod cell; // cell.rt: a box as its ends in parts
 pub mod cube; // cube.rt: the least and the greatest of F over the whole cube, on one axis
 mod measure; // measure.rt: what F at the corners says: survival, excess, width
-mod points; // points.rt: the kernel of an axis, from the coordinates of the eight points
+pub mod points; // points.rt: the kernel of an axis, from the coordinates of the eight points
 pub mod slab; // slab.rt: what all boxes of a t index share
 pub mod span; // span.rt: the least and the greatest of F over a cell's corners, on one axis
 mod weigh; // weigh.rt: what a split in each parameter is worth
+
+// Whether F comes within d of 0 on one axis over the whole cube, by the coordinates at the start and at the end.
+pub fn meets_axis(s: Four, e: Four, turned: bool, face: bool, d: u32) -> bool
+    requires { ⌜ Near s × (Near e × (d ≤ 65536)) ⌝ }
+    ensures { λ r. ⌜ r ≡ meets (kernelBy s e turned face) wholeCube d ⌝ }
+{
+    meets_whole(kernel_of(s, e, turned, face), d as u64)
+}
 
 // Whether the whole cube of a record that is not refused survives: level 0 has no other box. Only the axes that are reached are worked out.
 pub fn survives_whole(r: Record, words: usize) -> bool

@@ -1,7 +1,7 @@
 // The kernel of an axis, from the coordinates of the eight points.
 ghost use mathlib.Core.Path.{_≡_};
 ghost use Prim.Native.Nat.{_≤_};
-ghost use Rattle.gap.specs.Points.{Coordinates, Near, fourOf, sidedFour, endOf, kernelAt};
+ghost use Rattle.gap.specs.Points.{Coordinates, Near, fourOf, sidedFour, endOf, kernelBy, kernelAt};
 use super::span::Moment;
 use kernel::Kernel;
 use whole::minus;
@@ -65,19 +65,27 @@ fn end(face: bool, f: Four) -> Moment
     }
 }
 
+// An axis, by the coordinates at the start and at the end.
+pub fn kernel_of(s: Four, e: Four, turned: bool, face: bool) -> Kernel
+    requires { ⌜ Near s × Near e ⌝ }
+    ensures { λ r. ⌜ r ≡ kernelBy s e turned face ⌝ }
+{
+    let start = end(face, sided(turned, face, s));
+    let end = end(face, sided(turned, face, e));
+    Kernel {
+        a0: start.a,
+        b0: start.b,
+        c0: start.c,
+        a1: end.a,
+        b1: end.b,
+        c1: end.c,
+    }
+}
+
 // The axis whose first coordinate stands at `at`.
 pub fn kernel_at(points: [i32; 24], at: usize, turned: bool, face: bool) -> Kernel
     requires { ⌜ (at ≤ 2) × Coordinates points ⌝ }
     ensures { λ r. ⌜ r ≡ kernelAt points at turned face ⌝ }
 {
-    let s = end(face, sided(turned, face, four_at(points, at)));
-    let e = end(face, sided(turned, face, four_at(points, at + 12)));
-    Kernel {
-        a0: s.a,
-        b0: s.b,
-        c0: s.c,
-        a1: e.a,
-        b1: e.b,
-        c1: e.c,
-    }
+    kernel_of(four_at(points, at), four_at(points, at + 12), turned, face)
 }

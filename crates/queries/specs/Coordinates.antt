@@ -2,6 +2,7 @@
 -- Assumes nothing.
 use Prim.Native.Nat.{ℕ, zero, suc, _+_, _*_, _≤_, _<_}
 use mathlib.Core.Path.{_≡_, refl, sym, ap, _∙_}
+use mathlib.Core.Bool.{cond}
 use mathlib.Core.List.{List, [], _∷_, _++_, append-assoc, append-nil}
 use native.Mathlib.Nat.{add-assoc}
 use native.Mathlib.Omega.{arith}
@@ -14,7 +15,19 @@ use mir.Val.{SFits}
 use Rattle.little.specs.Put.{put-put, length-put}
 use Rattle.little.specs.Word.{Bytes, length-word, word-drop, word-back, word-lt, word-same}
 use Rattle.little.specs.Signed.{signed-bits, signed-fits, bits-signed, bits-below}
-use Rattle.rules.specs.QueryFile.{word, wordBytes, signed, bits, coordinatesAt, coordinateBytes, put}
+use Rattle.rules.specs.QueryFile.{isWide, word, wordBytes, signed, bits, coordinatesAt, coordinateBytes, put}
+
+-- where the points of a record at `at` stand
+abbrev pub pointsPlace : ℕ → ℕ → ℕ
+pointsPlace edition at = at + cond (isWide edition) 32 20
+
+-- a coordinate by its number
+pub coords-at : (s : List ℕ) (at n i : ℕ) → i < n → getD (coordinatesAt s at n) i (pos 0) ≡ signed (word s (at + 4 * i))
+unfolding coordinatesAt
+coords-at s at zero i h = absurd (omega arith)
+coords-at s at (suc n) zero h = let e : at ≡ at + 4 * 0 = omega arith in ap (λ (k : ℕ). signed (word s k)) e
+coords-at s at (suc n) (suc i) h =
+    let e : at + 4 + 4 * i ≡ at + 4 * suc i = omega arith in coords-at s (at + 4) n i (omega arith) ∙ ap (λ (k : ℕ). signed (word s k)) e
 
 pub coords-more : (s : List ℕ) (at n : ℕ) → coordinatesAt s at (suc n) ≡ coordinatesAt s at n ++ (signed (word s (at + 4 * n)) ∷ [])
 unfolding coordinatesAt

@@ -3,6 +3,7 @@ ghost use mathlib.Core.Path.{_≡_};
 ghost use mathlib.Core.Bool.{true, false};
 ghost use Prim.Native.Nat.{_+_, _*_, _≤_, _<_};
 ghost use lib.ListN.{length};
+ghost use Rattle.queries.specs.Coordinates.{pointsPlace};
 ghost use Rattle.rules.specs.QueryFile.{coordinatesAt, coordinateBytes, recordSize, recordBy, recordAt, bytesBy, recordBytes, put};
 use little::read_i32;
 use little::read_u32;
@@ -50,12 +51,19 @@ fn write_points(s: &mut [u8], at: usize, p: [i32; 24])
     }
 }
 
+// Where the points of a record at `at` stand: they end it.
+pub fn points_place(edition: u8, at: usize) -> usize
+    requires { ⌜ at + 32 < 18446744073709551616 ⌝ }
+    ensures { λ r. ⌜ r ≡ pointsPlace edition at ⌝ }
+{
+    if edition == 2 { at + 32 } else { at + 20 }
+}
+
 // The record of edition 1, which has one separation for all axes.
-fn decode_narrow(s: &[u8], at: usize) -> Record
-    requires { ⌜ at + 116 ≤ length (now s) ⌝ }
+fn decode_narrow(s: &[u8], at: usize, points: [i32; 24]) -> Record
+    requires { ⌜ (at + 116 ≤ length (now s)) × (points ≡ coordinatesAt (now s) (at + 20) 24) ⌝ }
     ensures { λ r. ⌜ r ≡ recordBy false (now (s .entry)) at ⌝ }
 {
-    let points = read_points(s, at + 20);
     Record {
         kind: s[at],
         flags: s[at + 1],
@@ -73,11 +81,10 @@ fn decode_narrow(s: &[u8], at: usize) -> Record
 }
 
 // The record of edition 2.
-fn decode_wide(s: &[u8], at: usize) -> Record
-    requires { ⌜ at + 128 ≤ length (now s) ⌝ }
+fn decode_wide(s: &[u8], at: usize, points: [i32; 24]) -> Record
+    requires { ⌜ (at + 128 ≤ length (now s)) × (points ≡ coordinatesAt (now s) (at + 32) 24) ⌝ }
     ensures { λ r. ⌜ r ≡ recordBy true (now (s .entry)) at ⌝ }
 {
-    let points = read_points(s, at + 32);
     Record {
         kind: s[at],
         flags: s[at + 1],
@@ -94,14 +101,16 @@ fn decode_wide(s: &[u8], at: usize) -> Record
     }
 }
 
+// The points are read before the edition is asked, so that what asks for a part of a record keeps no copy of it.
 pub fn decode(s: &[u8], at: usize, edition: u8) -> Record
     requires { ⌜ at + recordSize edition ≤ length (now s) ⌝ }
     ensures { λ r. ⌜ r ≡ recordAt edition (now (s .entry)) at ⌝ }
 {
+    let points = read_points(s, points_place(edition, at));
     if edition == 2 {
-        decode_wide(s, at)
+        decode_wide(s, at, points)
     } else {
-        decode_narrow(s, at)
+        decode_narrow(s, at, points)
     }
 }
 

@@ -39,13 +39,13 @@ pub fn is_coordinate(c: i32) -> bool
     (-1048576 <= c) & (c <= 1048576)
 }
 
-fn are_coordinates(points: [i32; 24]) -> bool
-    ensures { λ b. ⌜ b ≡ every isCoordinate points ⌝ }
+pub fn are_coordinates(s: &[i32]) -> bool
+    ensures { λ b. ⌜ b ≡ every isCoordinate (now (s .entry)) ⌝ }
 {
     let mut all = true;
     let mut i = 0;
-    while i < 24 {
-        all = all & is_coordinate(points[i]);
+    while i < s.len() {
+        all = all & is_coordinate(s[i]);
         i += 1;
     }
     all
@@ -64,17 +64,25 @@ pub fn first(due: bool, number: u32, rest: u32) -> u32
     if due { number } else { rest }
 }
 
-// The first of 1 to 6 that is due, else `rest`: from the last row to the first. 4 also where there is no room for the separations.
+// The first of 1 to 6 that is due, else `rest`: from the last row to the first. `right`: every coordinate is one, which who reads them has tested. 4 also
+// where there is no room for the separations.
+fn refusal_by(room: bool, r: Record, right: bool, rest: u32) -> u32
+    requires { ⌜ right ≡ every isCoordinate (r .points) ⌝ }
+    ensures { λ n. ⌜ n ≡ firstOr (casesWith room r) rest ⌝ }
+{
+    let six = first(!is_between(1, 1000000, r.budget), 6, rest);
+    let five = first(!is_between(16, 1048576, r.tolerance), 5, six);
+    let four = first(!(room & are_separations(r)), 4, five);
+    let three = first(!right, 3, four);
+    let two = first(!are_flags(r), 2, three);
+    first(!is_kind(r.kind), 1, two)
+}
+
 pub fn refusal_with(room: bool, r: Record, rest: u32) -> u32
     ensures { λ n. ⌜ n ≡ firstOr (casesWith room r) rest ⌝ }
 {
     let points = r.points;
-    let six = first(!is_between(1, 1000000, r.budget), 6, rest);
-    let five = first(!is_between(16, 1048576, r.tolerance), 5, six);
-    let four = first(!(room & are_separations(r)), 4, five);
-    let three = first(!are_coordinates(points), 3, four);
-    let two = first(!are_flags(r), 2, three);
-    first(!is_kind(r.kind), 1, two)
+    refusal_by(room, r, are_coordinates(&points), rest)
 }
 
 // What a record is refused for by itself, 1 to 6; 0: nothing.
@@ -84,9 +92,17 @@ pub fn record_refusal(r: Record) -> u32
     refusal_with(true, r, 0)
 }
 
-// What a search of it with so many queue words is refused for, 1 to 7; 0: nothing.
+// What a search of it with so many queue words is refused for, 1 to 7; 0: nothing. Its coordinates are tested already.
+pub fn search_refusal_by(r: Record, right: bool, words: usize) -> u32
+    requires { ⌜ right ≡ every isCoordinate (r .points) ⌝ }
+    ensures { λ n. ⌜ n ≡ searchRefusal r words ⌝ }
+{
+    refusal_by(true, r, right, first(!is_queue(words), 7, 0))
+}
+
 pub fn search_refusal(r: Record, words: usize) -> u32
     ensures { λ n. ⌜ n ≡ searchRefusal r words ⌝ }
 {
-    refusal_with(true, r, first(!is_queue(words), 7, 0))
+    let points = r.points;
+    search_refusal_by(r, are_coordinates(&points), words)
 }

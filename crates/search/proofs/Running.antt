@@ -1,18 +1,15 @@
 -- The loop over the levels: what is left to do gives the whole search's answer.
 use mathlib.Core.Path.{_≡_, refl, sym, ap, _∙_}
 use mathlib.Core.List.{List, [], _∷_}
-use Prim.Native.Nat.{ℕ, zero, suc, _-_, _<_, _≤_}
+use Prim.Native.Nat.{ℕ, zero, suc, _-_, _<_}
 use native.Mathlib.Omega.{arith}
-use borrow.Author.Tests.{ne-eqb}
-use lib.Dec.{eqb}
-use mathlib.Core.Bool.{false}
 use lib.ListN.{length, getD, take, replicate}
 use Rattle.rules.specs.declared.Answer.{Answer}
 use Rattle.rules.specs.declared.Answer.the-variants.{Met, Clear, Spent, Room, Floor, Refused}
 use Rattle.rules.specs.declared.Record.{Record}
 use Rattle.rules.specs.Answers.{queueAfter}
 use Rattle.rules.specs.Refusals.{searchRefusal}
-use Rattle.rules.specs.Search.{Query, origin, survives, oneBox, check, afterLevel, levels, run, unless, query, search}
+use Rattle.rules.specs.Search.{origin, levels, run, unless, query, search}
 use Rattle.kernel.specs.declared.Pair.{Pair}
 use Rattle.kernel.specs.Kernel.{asked}
 use Rattle.search.specs.declared.Level.{Level}
@@ -60,12 +57,6 @@ module _ (p : Pair) (queue : List ℕ) (z : Zeroed p queue) where
     len = refl;
     answer = rw first;
   }
-
--- ---- apart over the whole cube
-
-pub apart : (q : Query) → 1 ≤ q .budget → survives q origin origin ≡ false → Clear 1 ≡ run q
-unfolding run levels check oneBox afterLevel
-apart q h e = let b : eqb 0 (q .budget) ≡ false = ne-eqb 0 (q .budget) (omega arith) in sym (rw (b, e))
 
 -- ---- a step
 

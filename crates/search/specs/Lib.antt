@@ -1,2 +1,3 @@
 -- What the functions of the search promise, each a step of the written search.
 pub mod Levels
+pub mod Whole

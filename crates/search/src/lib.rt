@@ -289,7 +289,7 @@ pub fn clear_unless(queue: &mut [u64], clean: bool)
 }
 
 // The search of a record that is not refused, in a queue of zeros, from the whole cube down.
-fn search_levels(r: Record, queue: &mut [u64]) -> Answer
+pub fn search_levels(r: Record, queue: &mut [u64]) -> Answer
     requires { ⌜ Accepted r (now queue) ⌝ }
     ensures { λ a. ⌜ a ≡ search r (length (now (queue .entry))) ⌝ }
     ensures { λ a. ⌜ now (queue .exit) ≡ now (queue .entry) ⌝ }
@@ -299,32 +299,13 @@ fn search_levels(r: Record, queue: &mut [u64]) -> Answer
     search_zeroed(p, queue)
 }
 
-// The same, where the whole cube is asked first: one who has checked many records at once asks so.
+// The same, where the whole cube is asked first: most pairs are apart over it, and then nothing is prepared and no word is touched.
 pub fn search_accepted(r: Record, queue: &mut [u64]) -> Answer
     requires { ⌜ Accepted r (now queue) ⌝ }
     ensures { λ a. ⌜ a ≡ search r (length (now (queue .entry))) ⌝ }
     ensures { λ a. ⌜ now (queue .exit) ≡ now (queue .entry) ⌝ }
     ensures { λ a. ⌜ Answers a ⌝ }
 {
-    if gap::survives_whole(r, queue.len()) {
-        return search_levels(r, queue);
-    }
-    // most pairs are apart over the whole cube: nothing is prepared, and no word is touched
-    Answer::Clear(1)
-}
-
-// The search of a record in a queue that may be `clean`: one who asks again and again clears it once.
-pub fn search_in(r: Record, queue: &mut [u64], clean: bool) -> Answer
-    requires { ⌜ Clean clean (now queue) ⌝ }
-    ensures { λ a. ⌜ a ≡ search r (length (now (queue .entry))) ⌝ }
-    ensures { λ a. ⌜ now (queue .exit) ≡ queueAfter (search r (length (now (queue .entry)))) (now (queue .entry)) ⌝ }
-{
-    let number = refusals::search_refusal(r, queue.len());
-    if number != 0 {
-        return Answer::Refused(number);
-    }
-    clear_unless(queue, clean);
-    // as `search_accepted`, said again: with two callers the levels stay a function of their own, and level 0 has no share in its frame
     if gap::survives_whole(r, queue.len()) {
         return search_levels(r, queue);
     }
@@ -336,5 +317,10 @@ pub fn search(r: Record, queue: &mut [u64]) -> Answer
     ensures { λ a. ⌜ a ≡ search r (length (now (queue .entry))) ⌝ }
     ensures { λ a. ⌜ now (queue .exit) ≡ queueAfter (search r (length (now (queue .entry)))) (now (queue .entry)) ⌝ }
 {
-    search_in(r, queue, false)
+    let number = refusals::search_refusal(r, queue.len());
+    if number != 0 {
+        return Answer::Refused(number);
+    }
+    clear(queue);
+    search_accepted(r, queue)
 }

@@ -1,14 +1,15 @@
--- `answers::answer_at` meets its contract: a record read, searched and told. Assumes nothing.
+-- `answers::answer_at` meets its contract: a record searched where it stands, and told. Assumes nothing.
+use mathlib.Core.Path.{refl}
 use Rattle.answers.proofs.Walking.{answered}
 use borrow.Author.Needs.{needs}
 use Rattle.answers.proofs.answer_at.Statement.{statement}
 use Rattle.answers.proofs.answer_at.Tie as tie
 
-decode-requires : tie.Need-decode-requires
-decode-requires c κs = search needs
+search-at-requires : tie.Need-search-at-requires
+search-at-requires c κs = search needs
 
-search-in-requires : tie.Need-search-in-requires
-search-in-requires c κs = search needs
+id-at-requires : tie.Need-id-at-requires
+id-at-requires c κs = search needs
 
 write-eight-requires : tie.Need-write-eight-requires
 write-eight-requires c κs = search needs
@@ -25,17 +26,15 @@ same-length-2 c = search needs
 returns : tie.Need-returns
 returns c =
     let w = c .before .before .before in
-    let q = c .before .before .before .before .before .before .before in
-    let d = c .before .before .before .before .before .before .before .before .before in
-    let k = c .before .before .before .before .before .before .before .before .before .before .before .before .before in
-    answered (d .decode .ensures) (q .search-in .ensures .0) (q .search-in .ensures .1) (w .write-eight .ensures) (c .is-answered .ensures) (k .pre .zero)
+    let q = c .before .before .before .before .before .before .before .before in
+    answered refl (q .search-at .ensures .0) (q .search-at .ensures .1) (rw (w .before .id-at .ensures) at (w .write-eight .ensures)) (c .is-answered .ensures) (q .before .before .before .before .before .pre .zero)
 
 pub answer-at-spec : {M : Type 1} → statement M
 answer-at-spec =
     tie.close
     (tie.spec
-    decode-requires
-    search-in-requires
+    search-at-requires
+    id-at-requires
     write-eight-requires
     is-answered-requires
     same-length

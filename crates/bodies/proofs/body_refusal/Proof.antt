@@ -41,17 +41,17 @@ returns-2 c =
     (both (sym (k .before .before .is-body .ensures)) (sym (k .before .is-body2 .ensures)) ∙ turned (k .if1 .left)) _
     (c .before .search-refusal .ensures ∙ ap (λ (r : Record). searchRefusal r (a .words)) (c .before .before .query-at .ensures (a .m) (a .n))) (c .if2 .taken)
 
-are-positions-requires : tie.Need-are-positions-requires
-are-positions-requires c κs = search needs
+are-coordinates-requires : tie.Need-are-coordinates-requires
+are-coordinates-requires c κs = search needs
 
-are-positions-requires-2 : tie.Need-are-positions-requires-2
-are-positions-requires-2 c κs = search needs
+are-coordinates-requires-2 : tie.Need-are-coordinates-requires-2
+are-coordinates-requires-2 c κs = search needs
 
-are-positions-requires-3 : tie.Need-are-positions-requires-3
-are-positions-requires-3 c κs = search needs
+are-coordinates-requires-3 : tie.Need-are-coordinates-requires-3
+are-coordinates-requires-3 c κs = search needs
 
-are-positions-requires-4 : tie.Need-are-positions-requires-4
-are-positions-requires-4 c κs = search needs
+are-coordinates-requires-4 : tie.Need-are-coordinates-requires-4
+are-coordinates-requires-4 c κs = search needs
 
 returns-3 : tie.Need-returns-3
 returns-3 c =
@@ -62,7 +62,7 @@ returns-3 c =
     by-positions (a .w) (body (a .m) (a .a0 .now) (a .a1 .now)) (body (a .n) (a .b0 .now) (a .b1 .now)) (a .words)
     (both (sym (k .before .before .is-body .ensures)) (sym (k .before .is-body2 .ensures)) ∙ turned (k .if1 .left)) _
     (f .before .search-refusal .ensures ∙ ap (λ (r : Record). searchRefusal r (a .words)) (f .before .before .query-at .ensures (a .m) (a .n))) _ (omega (arith, f .if2 .left))
-    (both (both (sym (p .are-positions .ensures)) (sym (c .before .before .before .are-positions2 .ensures))) (both (sym (c .before .before .are-positions3 .ensures)) (sym (c .before .are-positions4 .ensures))) ∙ c .if3 .taken)
+    (both (both (sym (p .are-coordinates .ensures)) (sym (c .before .before .before .are-coordinates2 .ensures))) (both (sym (c .before .before .are-coordinates3 .ensures)) (sym (c .before .are-coordinates4 .ensures))) ∙ c .if3 .taken)
 
 returns-4 : tie.Need-returns-4
 returns-4 c =
@@ -73,7 +73,7 @@ returns-4 c =
     by-positions (a .w) (body (a .m) (a .a0 .now) (a .a1 .now)) (body (a .n) (a .b0 .now) (a .b1 .now)) (a .words)
     (both (sym (k .before .before .is-body .ensures)) (sym (k .before .is-body2 .ensures)) ∙ turned (k .if1 .left)) _
     (f .before .search-refusal .ensures ∙ ap (λ (r : Record). searchRefusal r (a .words)) (f .before .before .query-at .ensures (a .m) (a .n))) _ (omega (arith, f .if2 .left))
-    (both (both (sym (p .are-positions .ensures)) (sym (c .before .before .before .are-positions2 .ensures))) (both (sym (c .before .before .are-positions3 .ensures)) (sym (c .before .are-positions4 .ensures))) ∙ c .if3 .left)
+    (both (both (sym (p .are-coordinates .ensures)) (sym (c .before .before .before .are-coordinates2 .ensures))) (both (sym (c .before .before .are-coordinates3 .ensures)) (sym (c .before .are-coordinates4 .ensures))) ∙ c .if3 .left)
 
 pub body-refusal-spec : {M : Type 1} → statement M
 body-refusal-spec =
@@ -85,9 +85,9 @@ body-refusal-spec =
     query-at-requires
     search-refusal-requires
     returns-2
-    are-positions-requires
-    are-positions-requires-2
-    are-positions-requires-3
-    are-positions-requires-4
+    are-coordinates-requires
+    are-coordinates-requires-2
+    are-coordinates-requires-3
+    are-coordinates-requires-4
     returns-3
     returns-4)

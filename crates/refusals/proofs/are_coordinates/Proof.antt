@@ -4,7 +4,7 @@ use mathlib.Core.Path.{_≡_, refl, sym, _∙_}
 use mathlib.Core.Bool.{_&&_}
 use native.Mathlib.Omega.{arith}
 use borrow.Author.Needs.{needs, sfits-of}
-use lib.ListN.{drop}
+use lib.ListN.{length, drop}
 use mir.Facts.{toZ-ofZ}
 use Rattle.rules.specs.Numbers.{isCoordinate}
 use Rattle.rules.specs.Refusals.{every}
@@ -13,10 +13,10 @@ use Rattle.refusals.proofs.are_coordinates.Statement.{statement}
 use Rattle.refusals.proofs.are_coordinates.Tie as tie
 
 abbrev Inv-loop : tie.InvT-loop
-Inv-loop points all₀ i₀ all i = (i ≤ 24) × (every isCoordinate points ≡ (all && every isCoordinate (drop i points)))
+Inv-loop s all₀ i₀ all i = (i ≤ length s) × (every isCoordinate s ≡ (all && every isCoordinate (drop i s)))
 
 abbrev μ-loop : tie.MeasureT-loop
-μ-loop points all₀ i₀ all i = 24 - i
+μ-loop s all₀ i₀ all i = length s - i
 
 loop-holds : tie.Need-loop-holds Inv-loop μ-loop
 loop-holds c = (omega arith, refl)
@@ -24,8 +24,8 @@ loop-holds c = (omega arith, refl)
 mul-is-coordinate : tie.Need-mul-is-coordinate Inv-loop μ-loop
 mul-is-coordinate c = omega arith
 
-array-copy-out-is-coordinate : tie.Need-array-copy-out-is-coordinate Inv-loop μ-loop
-array-copy-out-is-coordinate c = omega arith
+shared-slice-copy-out-is-coordinate : tie.Need-shared-slice-copy-out-is-coordinate Inv-loop μ-loop
+shared-slice-copy-out-is-coordinate c = omega arith
 
 is-coordinate-requires : tie.Need-is-coordinate-requires Inv-loop μ-loop
 is-coordinate-requires c κs = search needs
@@ -41,14 +41,14 @@ loop-again c =
     let k = c .before .before .before in (
       omega arith,
       k .loop .inv .1
-          ∙ every-next isCoordinate (k .before .args .t1) (k .loop .all) (c .is-coordinate .result) (k .loop .i) _ (omega arith) (c .is-coordinate .ensures)
+          ∙ every-next isCoordinate (k .before .args .s .now) (k .loop .all) (c .is-coordinate .result) (k .loop .i) _ (omega arith) (c .is-coordinate .ensures)
           (toZ-ofZ (sfits-of (c .before .is-coordinate-arg .given))),
     )
 
 returns : tie.Need-returns Inv-loop μ-loop
 returns c =
     let l = c .before .loop in
-    sym (l .inv .1 ∙ every-end isCoordinate (c .before .before .args .t1) (l .all) (l .i) (omega arith))
+    sym (l .inv .1 ∙ every-end isCoordinate (c .before .before .args .s .now) (l .all) (l .i) (omega arith))
 
 pub are-coordinates-spec : {M : Type 1} → statement M
 are-coordinates-spec =
@@ -58,7 +58,7 @@ are-coordinates-spec =
     μ-loop
     loop-holds
     mul-is-coordinate
-    array-copy-out-is-coordinate
+    shared-slice-copy-out-is-coordinate
     is-coordinate-requires
     add-i
     loop-less

@@ -1,9 +1,7 @@
 -- Apart over the whole cube it is clear, and else the levels are searched.
 use mathlib.Core.Path.{refl, sym, _∙_}
 use lib.ListN.{length}
-use Rattle.rules.specs.Search.{query}
-use Rattle.refusals.specs.Accepted.{accepted-search}
-use Rattle.search.proofs.Running.{apart, search-run}
+use Rattle.search.specs.Whole.{search-clear}
 use borrow.Author.Needs.{needs}
 use Rattle.search.proofs.search_accepted.Statement.{statement}
 use Rattle.search.proofs.search_accepted.Tie as tie
@@ -25,8 +23,7 @@ returns-2 c =
     let s = c .before .before .before in
     let r = s .args .r in
     let words = length (s .args .queue .now) in (
-      apart (query r words) (accepted-search r words (s .pre .none) .query .budget-least) (sym (c .before .survives-whole .ensures) ∙ c .if1 .left)
-          ∙ sym (search-run r words _ refl (s .pre .none)),
+      sym (search-clear r words (s .pre .none) (sym (c .before .survives-whole .ensures) ∙ c .if1 .left)),
       (refl, tt),
     )
 

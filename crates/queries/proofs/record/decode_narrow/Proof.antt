@@ -4,17 +4,11 @@ use borrow.Author.Needs.{needs}
 use Rattle.queries.proofs.record.decode_narrow.Statement.{statement}
 use Rattle.queries.proofs.record.decode_narrow.Tie as tie
 
-add-read-points : tie.Need-add-read-points
-add-read-points c = search needs
+shared-slice-read-t5 : tie.Need-shared-slice-read-t5
+shared-slice-read-t5 c = search needs
 
-read-points-requires : tie.Need-read-points-requires
-read-points-requires c κs = search needs
-
-shared-slice-read-t6 : tie.Need-shared-slice-read-t6
-shared-slice-read-t6 c = search needs
-
-add-t4 : tie.Need-add-t4
-add-t4 c = search needs
+add-t6 : tie.Need-add-t6
+add-t6 c = search needs
 
 shared-slice-read-t8 : tie.Need-shared-slice-read-t8
 shared-slice-read-t8 c = search needs
@@ -77,17 +71,15 @@ returns c =
       c .before .before .read-u324 .ensures,
       c .before .read-u325 .ensures,
       c .read-u326 .ensures,
-      c .before .before .before .before .before .before .before .before .before .before .read-points .ensures,
+      c .before .before .before .before .before .before .before .before .before .before .before .pre .1,
     )
 
 pub decode-narrow-spec : {M : Type 1} → statement M
 decode-narrow-spec =
     tie.close
     (tie.spec
-    add-read-points
-    read-points-requires
-    shared-slice-read-t6
-    add-t4
+    shared-slice-read-t5
+    add-t6
     shared-slice-read-t8
     add-t9
     shared-slice-read-t11

@@ -1,4 +1,4 @@
--- `refusals::search_refusal` meets its contract: row 7 stands behind the record's own. Assumes nothing.
+-- `refusals::search_refusal_by` meets its contract: row 7 stands behind the record's own. Assumes nothing.
 use mathlib.Core.Path.{_≡_, sym, ap, _∙_}
 use mathlib.Core.Bool.{not}
 use mathlib.Core.List.{List, [], _∷_}
@@ -6,8 +6,8 @@ use Rattle.rules.specs.Numbers.{isQueue}
 use Rattle.rules.specs.Refusals.{Case, first, recordCases, searchRefusal}
 use Rattle.refusals.specs.Cases.{firstOr, first-append}
 use borrow.Author.Needs.{needs}
-use Rattle.refusals.proofs.search_refusal.Statement.{statement}
-use Rattle.refusals.proofs.search_refusal.Tie as tie
+use Rattle.refusals.proofs.search_refusal_by.Statement.{statement}
+use Rattle.refusals.proofs.search_refusal_by.Tie as tie
 
 is-queue-requires : tie.Need-is-queue-requires
 is-queue-requires c κs = search needs
@@ -15,8 +15,8 @@ is-queue-requires c κs = search needs
 first-requires : tie.Need-first-requires
 first-requires c κs = search needs
 
-refusal-with-requires : tie.Need-refusal-with-requires
-refusal-with-requires c κs = search needs
+refusal-by-requires : tie.Need-refusal-by-requires
+refusal-by-requires c κs = search needs
 
 returns : tie.Need-returns
 unfolding searchRefusal first
@@ -24,8 +24,8 @@ returns c =
     let a = c .before .before .before .args in
     let seven : List Case = record { number = 7; due = not (isQueue (a .words)) } ∷ [] in
     let e : c .before .first .result ≡ first seven = simp (c .before .first .ensures, c .before .before .is-queue .ensures) in
-    c .refusal-with .ensures ∙ ap (firstOr (recordCases (a .r))) e ∙ sym (first-append (recordCases (a .r)) seven)
+    c .refusal-by .ensures ∙ ap (firstOr (recordCases (a .r))) e ∙ sym (first-append (recordCases (a .r)) seven)
 
-pub search-refusal-spec : {M : Type 1} → statement M
-search-refusal-spec =
-    tie.close (tie.spec is-queue-requires first-requires refusal-with-requires returns)
+pub search-refusal-by-spec : {M : Type 1} → statement M
+search-refusal-by-spec =
+    tie.close (tie.spec is-queue-requires first-requires refusal-by-requires returns)

@@ -1,8 +1,8 @@
--- `refusals::refusal_with` meets its contract: each call is a row of the table. Assumes nothing.
+-- `refusals::refusal_by` meets its contract: each call is a row of the table. Assumes nothing.
 use Rattle.refusals.specs.Cases.{firstOr}
 use borrow.Author.Needs.{needs}
-use Rattle.refusals.proofs.refusal_with.Statement.{statement}
-use Rattle.refusals.proofs.refusal_with.Tie as tie
+use Rattle.refusals.proofs.refusal_by.Statement.{statement}
+use Rattle.refusals.proofs.refusal_by.Tie as tie
 
 is-between-requires : tie.Need-is-between-requires
 is-between-requires c κs = search needs
@@ -21,9 +21,6 @@ are-separations-requires c κs = search needs
 
 first-requires-3 : tie.Need-first-requires-3
 first-requires-3 c κs = search needs
-
-are-coordinates-requires : tie.Need-are-coordinates-requires
-are-coordinates-requires c κs = search needs
 
 first-requires-4 : tie.Need-first-requires-4
 first-requires-4 c κs = search needs
@@ -49,17 +46,17 @@ returns c =
       c .before .before .first5 .ensures,
       c .before .before .before .are-flags .ensures,
       c .before .before .before .before .first4 .ensures,
-      c .before .before .before .before .before .are-coordinates .ensures,
-      c .before .before .before .before .before .before .first3 .ensures,
-      c .before .before .before .before .before .before .before .are-separations .ensures,
-      c .before .before .before .before .before .before .before .before .first2 .ensures,
-      c .before .before .before .before .before .before .before .before .before .is-between2 .ensures,
-      c .before .before .before .before .before .before .before .before .before .before .first .ensures,
-      c .before .before .before .before .before .before .before .before .before .before .before .is-between .ensures,
+      c .before .before .before .before .before .before .before .before .before .before .before .pre,
+      c .before .before .before .before .before .first3 .ensures,
+      c .before .before .before .before .before .before .are-separations .ensures,
+      c .before .before .before .before .before .before .before .first2 .ensures,
+      c .before .before .before .before .before .before .before .before .is-between2 .ensures,
+      c .before .before .before .before .before .before .before .before .before .first .ensures,
+      c .before .before .before .before .before .before .before .before .before .before .is-between .ensures,
     )
 
-pub refusal-with-spec : {M : Type 1} → statement M
-refusal-with-spec =
+pub refusal-by-spec : {M : Type 1} → statement M
+refusal-by-spec =
     tie.close
     (tie.spec
     is-between-requires
@@ -68,7 +65,6 @@ refusal-with-spec =
     first-requires-2
     are-separations-requires
     first-requires-3
-    are-coordinates-requires
     first-requires-4
     are-flags-requires
     first-requires-5
