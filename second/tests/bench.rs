@@ -1,23 +1,28 @@
 //! What the bench measures does what it is measured for.
 
+use second::bench::answering::{answers, ByHand};
 use second::bench::berth::Berth;
 use second::bench::bodies::{corpus::Class, walk};
+use second::bench::corpus::{self, Corpus, SEED};
+use second::bench::fast::Fast;
 use second::bench::float::{queries, Found};
 use second::bench::measure::{by_turns, median, Contestant};
-use second::bench::plain::answers;
+use second::bench::plain::Plain;
+use second::bench::table;
 use second::beside::{bodies, Expected};
 use second::bodies::{answer, told, Bodies};
-use second::edition::Edition::One;
+use second::edition::Edition::{One, Two};
 use second::file::{file_of, open};
 use second::gen::{flavours, generate};
-use second::record::Record;
+use second::record::{Record, EDGE_EDGE, VERTEX_FACE};
+use second::rng::Rng;
 use std::collections::BinaryHeap;
 
-/// Code, told and queue of the search written by hand.
-fn by_hand<const LEAVE: bool>(file: &[u8], words: usize) -> (u32, Vec<u32>, Vec<u64>) {
+/// Code, told and queue of a search written by hand.
+fn by_hand<S: ByHand>(file: &[u8], words: usize) -> (u32, Vec<u32>, Vec<u64>) {
     let count = open(file).map_or(0, |opened| opened.count as usize);
     let (mut told, mut queue) = (vec![7; 8 * count], vec![7; words]);
-    let code = answers::<LEAVE>(file, &mut queue, &mut told);
+    let code = answers::<S>(file, &mut queue, &mut told);
     (code, told, queue)
 }
 
@@ -26,25 +31,71 @@ fn is_small(flavour: &&str) -> bool {
     !["many", "most"].iter().any(|large| flavour.starts_with(large))
 }
 
+/// Both searches by hand are told what the second program is, and leave what it would.
+fn assert_as_expected(file: &[u8], words: usize, of: &str) {
+    let (code, told, queue) = by_hand::<Fast>(file, words);
+    assert!((code, told.clone(), queue.clone()) == by_hand::<Plain>(file, words), "{of}");
+    match Expected::of(file, words).records {
+        Err(number) => assert_eq!(code, number),
+        Ok(records) => assert_eq!((code, told), (0, records.concat()), "{of}"),
+    }
+    assert!(queue.iter().all(|word| *word == 0) || queue.iter().all(|word| *word == 7));
+}
+
 #[test]
-fn search_by_hand_answers_as_the_second_program() {
+fn searches_by_hand_answer_as_the_second_program() {
     for flavour in flavours().into_iter().filter(is_small) {
         for seed in 1..8 {
             let file = generate(seed, flavour).unwrap();
             for words in [1, 2, 7, 8, 33, 4096] {
-                let found = by_hand::<false>(&file, words);
-                assert_eq!(found, by_hand::<true>(&file, words));
-                let (code, told, queue) = found;
-                match Expected::of(&file, words).records {
-                    Err(number) => assert_eq!(code, number),
-                    Ok(records) => {
-                        assert_eq!((code, told), (0, records.concat()), "{flavour} {seed}")
-                    }
-                }
-                assert!(queue.iter().all(|word| *word == 0) || queue.iter().all(|word| *word == 7));
+                assert_as_expected(&file, words, &format!("{flavour} {seed}"));
             }
         }
     }
+}
+
+/// Two edges: x comes within at both ends of v and not between, so that rows have a gap; z keeps u = 0 from being met at once.
+fn gapped(rng: &mut Rng) -> Record {
+    let (far, high) = (rng.between(8_000, 12_000), rng.between(66_000, 72_000));
+    let mut off = || rng.between(-40, 40);
+    let [start, end] = [-far, far].map(|x| {
+        let first = [[x.max(0), 0, high], [x.max(0) + off(), 0, 20_000]];
+        [first[0], first[1], [off(), 0, 0], [x, 60_000, 0]]
+    });
+    let (separations, budget) = ([100, 65_536, 65_536], rng.between(30, 900) as u32);
+    Record {
+        kind: EDGE_EDGE,
+        separations,
+        tolerance: 16,
+        budget,
+        start,
+        end,
+        ..Berth::new(1).query()
+    }
+}
+
+#[test]
+fn rows_with_a_gap() {
+    let mut rng = Rng::new(1, "gaps");
+    let records: Vec<Record> = (0..200).map(|_| gapped(&mut rng)).collect();
+    assert_as_expected(&file_of(Two, &records), 4096, "gaps");
+    assert_as_expected(&file_of(Two, &records), 64, "gaps");
+}
+
+#[test]
+fn coordinates_at_the_extremes() {
+    let mut rng = Rng::new(1, "extremes");
+    let record = |rng: &mut Rng| {
+        let mut point = || [0; 3].map(|_: i32| rng.pick(&[-1_048_576, 0, 1_048_576, 1_048_575]));
+        let [start, end] = [[(); 4].map(|()| point()), [(); 4].map(|()| point())];
+        let separations = [0; 3].map(|_: i32| rng.pick(&[0, 400, 65_536]));
+        let (kind, flags) = (rng.pick(&[VERTEX_FACE, EDGE_EDGE]), rng.pick(&[0, 1]));
+        let (tolerance, budget) = (rng.pick(&[16, 1_048_576]), rng.between(1, 300) as u32);
+        let sound = Berth::new(1).query();
+        Record { kind, flags, separations, tolerance, budget, start, end, ..sound }
+    };
+    let records: Vec<Record> = (0..500).map(|_| record(&mut rng)).collect();
+    assert_as_expected(&file_of(Two, &records), 256, "extremes");
 }
 
 fn sample(seed: u64, number: usize) -> Vec<Record> {
@@ -55,7 +106,7 @@ fn sample(seed: u64, number: usize) -> Vec<Record> {
 #[test]
 fn berth_brings_clear_met_and_spent_and_mostly_level_0() {
     let records = sample(1, 4096);
-    let (code, told, _) = by_hand::<true>(&file_of(One, &records), 4096);
+    let (code, told, _) = by_hand::<Fast>(&file_of(One, &records), 4096);
     let number = |word: u32| told.chunks(8).filter(|told| told[1] == word).count();
     let level_0 = told.chunks(8).filter(|told| told[6] == 1).count();
     assert_eq!((code, number(0)), (0, 0));
@@ -68,7 +119,7 @@ fn berth_brings_clear_met_and_spent_and_mostly_level_0() {
 #[test]
 fn floats_find_what_the_exact_search_finds() {
     let file = file_of(One, &sample(1, 4096));
-    let (_, told, _) = by_hand::<true>(&file, 4096);
+    let (_, told, _) = by_hand::<Fast>(&file, 4096);
     let mut heap = BinaryHeap::new();
     let (mut decided, mut alike) = (0, 0);
     for (query, told) in queries(&file).zip(told.chunks(8)) {
@@ -84,9 +135,9 @@ fn floats_find_what_the_exact_search_finds() {
 }
 
 /// Code, told and queue of the walk written by hand.
-fn walked<const UNSCALED: bool>(bodies: &Bodies, words: usize) -> (u32, [u32; 8], Vec<u64>) {
+fn walked<const FAST: bool>(bodies: &Bodies, words: usize) -> (u32, [u32; 8], Vec<u64>) {
     let (mut told, mut queue) = ([7; 8], vec![7; words]);
-    let code = walk::bodies::<UNSCALED>(bodies, &mut queue, &mut told);
+    let code = walk::bodies::<FAST>(bodies, &mut queue, &mut told);
     (code, told, queue)
 }
 
@@ -115,14 +166,36 @@ fn walks_by_hand_answer_as_the_second_program() {
 #[test]
 fn bodies_of_the_bench_are_far_apart_near_and_touching() {
     let queries = 256 * 256 * 15;
+    assert_eq!(Class::all(1)[0].bodies(16).b.count, 16);
     let [far, near, touching] = Class::all(1).map(|class| {
-        let (code, told, _) = walked::<true>(&class.bodies(), 4096);
+        let (code, told, _) = walked::<true>(&class.bodies(256), 4096);
         assert_eq!((code, told[7]), (0, 0), "{}", class.name);
         (told[0], told[6])
     });
     assert_eq!(far, (2, queries));
     assert!(near.0 == 2 && near.1 > queries + queries / 10, "{near:?}");
     assert!(touching.0 != 2 && touching.1 > queries + queries / 4, "{touching:?}");
+}
+
+#[test]
+fn deeper_queries_by_their_boxes() {
+    let Corpus { classes, by_size, .. } = Corpus::new(SEED);
+    let boxes = |class: &corpus::Class| -> Vec<u32> {
+        let (_, told, _) = by_hand::<Fast>(&class.file, 4096);
+        told.chunks(8).map(|told| told[6]).collect()
+    };
+    let sizes = [2..=8, 9..=64, 65..=256, 257..=1000];
+    for (class, size) in by_size.iter().zip(sizes) {
+        let boxes = boxes(class);
+        assert!(boxes.len() == class.queries && boxes.iter().all(|n| size.contains(n)));
+    }
+    assert_eq!(by_size.iter().map(|class| class.queries).sum::<usize>(), classes[2].queries);
+    assert!(boxes(&classes[1]).iter().all(|n| *n == 1));
+}
+
+#[test]
+fn growth_of_two_times() {
+    assert_eq!(table::growth(60.0, 30.0, 2.0, 10.0), [30.0, 15.0, 6.0, 3.0, 2.0]);
 }
 
 #[test]

@@ -1,19 +1,23 @@
-//! The berth's queries as files, those decided at level 0 apart from the others.
+//! The berth's queries as files: as they come, decided at level 0, and deeper ones, these also by their boxes.
 
+use super::answering::answers;
 use super::berth::Berth;
-use super::plain;
+use super::fast::Fast;
 use crate::edition::Edition;
 use crate::file::file_of;
 use crate::record::Record;
+use std::ops::RangeInclusive;
 
 pub const SEED: u64 = 1;
 pub const QUEUE_WORDS: usize = 4_096;
 /// The most records of a file.
 const RECORDS: usize = 4_096;
+/// Boxes of a deeper query, from the smallest searches to those that come to the budget.
+const SIZES: [RangeInclusive<u32>; 4] = [2..=8, 9..=64, 65..=256, 257..=1_000];
 
 /// Queries of one sort, a file's worth.
 pub struct Class {
-    pub name: &'static str,
+    pub name: String,
     pub file: Vec<u8>,
     pub queries: usize,
 }
@@ -23,6 +27,8 @@ pub struct Corpus {
     pub triangles: (usize, usize),
     /// As they come, decided at level 0, more than one box.
     pub classes: [Class; 3],
+    /// The last of these by its boxes.
+    pub by_size: [Class; 4],
 }
 
 impl Corpus {
@@ -37,18 +43,26 @@ impl Corpus {
                 class.push(record);
             }
         }
-        let class = |name, records: Vec<Record>| {
-            let (file, queries) = (file_of(Edition::One, &records), records.len());
-            Class { name, file, queries }
-        };
-        let classes =
-            [class("as they come", all), class("level 0", level_0), class("deeper", deeper)];
-        Corpus { triangles: berth.triangles(), classes }
+        let by_size = SIZES.map(|size| {
+            let of_size = deeper.iter().filter(|record| size.contains(&boxes(record)));
+            let name = format!("{} to {} boxes", size.start(), size.end());
+            Class::new(&name, &of_size.copied().collect::<Vec<_>>())
+        });
+        let classes = [("as they come", all), ("level 0", level_0), ("deeper", deeper)]
+            .map(|(name, records)| Class::new(name, &records));
+        Corpus { triangles: berth.triangles(), classes, by_size }
+    }
+}
+
+impl Class {
+    fn new(name: &str, records: &[Record]) -> Class {
+        let file = file_of(Edition::One, records);
+        Class { name: name.to_string(), file, queries: records.len() }
     }
 }
 
 fn boxes(record: &Record) -> u32 {
     let (mut queue, mut told) = (vec![0; QUEUE_WORDS], [0; 8]);
-    plain::answers::<true>(&file_of(Edition::One, &[*record]), &mut queue, &mut told);
+    answers::<Fast>(&file_of(Edition::One, &[*record]), &mut queue, &mut told);
     told[6]
 }

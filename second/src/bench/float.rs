@@ -39,11 +39,12 @@ impl Query {
     #[inline(always)]
     pub fn of(query: &reading::Query) -> Query {
         let mut points = [[[0.0; 3]; 4]; 2];
-        for (n, coordinate) in query.coordinates.iter().enumerate() {
-            points[n / 12][n % 12 / 3][n % 3] = f64::from(*coordinate) * METRES;
+        for n in 0..24 {
+            let (end, point, axis) = (n / 12, n % 12 / 3, n % 3);
+            points[end][point][axis] = f64::from(query.coordinate(point, end, axis)) * METRES;
         }
         Query {
-            vertex_face: query.vertex_face(),
+            vertex_face: query.is_vertex_face(),
             start: points[0],
             end: points[1],
             separations: query.separations.map(|d| f64::from(d) * METRES),

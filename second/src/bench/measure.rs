@@ -1,5 +1,7 @@
 //! Times by turns: every round asks each contestant once, and the median over the rounds counts.
 
+/// Rounds of a figure.
+pub const ROUNDS: usize = 31;
 /// A round gives each contestant about so many nanoseconds.
 const TURN: f64 = 3e6;
 /// The clock that stands still while another process has the processor (Linux, any machine).
@@ -39,7 +41,7 @@ pub struct Measured {
 }
 
 /// The medians, in the contestants' order.
-pub fn by_turns(contestants: &mut [Contestant], rounds: usize) -> Vec<Measured> {
+pub fn by_turns<const N: usize>(contestants: &mut [Contestant; N], rounds: usize) -> [Measured; N] {
     let boxes: Vec<u64> = contestants.iter_mut().map(|one| (one.run)()).collect();
     let turns: Vec<u32> = contestants.iter_mut().map(turns).collect();
     let mut times = vec![Vec::new(); contestants.len()];
@@ -49,7 +51,8 @@ pub fn by_turns(contestants: &mut [Contestant], rounds: usize) -> Vec<Measured> 
         }
     }
     let medians = times.into_iter().map(median);
-    medians.zip(boxes).map(|(nanoseconds, boxes)| Measured { nanoseconds, boxes }).collect()
+    let measured = medians.zip(boxes).map(|(nanoseconds, boxes)| Measured { nanoseconds, boxes });
+    measured.collect::<Vec<_>>().try_into().expect("one of each contestant")
 }
 
 /// How often one goes through in a turn.

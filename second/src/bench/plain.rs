@@ -1,131 +1,74 @@
-//! An exact search written by hand for speed: same answers, same calls, a fixed queue. Its yardstick is time, not proof.
+//! An exact search written by hand as one writes it first: eight corners a box, axis by axis, left at the first that misses.
 
-use super::motion::{Ends, Motion, Q, UNIT};
-use super::reading::{records, Query, ONE, TWO};
-use crate::edition::Edition;
-use crate::file::{open, Opened};
+use super::answering::{Answer, ByHand, CLEAR, FLOOR, MET, ROOM, SPENT};
+use super::motion::{between, parameter, Asked, DEEPEST, Q};
+use super::reading::Query;
 
-const DEEPEST: u32 = 20;
 /// Where the t, u and v index stand in a stored box.
 const SHIFTS: [u32; 3] = [40, 20, 0];
-const MET: u32 = 1;
-const CLEAR: u32 = 2;
-const SPENT: u32 = 3;
-const ROOM: u32 = 4;
-const FLOOR: u32 = 5;
 
-/// As `taperhive_answers`. With LEAVE a box is left at the first axis that misses.
-pub fn answers<const LEAVE: bool>(file: &[u8], queue: &mut [u64], told: &mut [u32]) -> u32 {
-    let opened = match open(file) {
-        Ok(opened) => opened,
-        Err(refusal) => return refusal.number(),
-    };
-    if told.len() < 8 * opened.count as usize {
-        return 14;
-    }
-    match opened.edition {
-        Edition::One => all::<LEAVE, ONE>(file, opened, queue, told),
-        Edition::Two => all::<LEAVE, TWO>(file, opened, queue, told),
-    }
-    0
-}
-
-/// Every record of an opened file; SIZE is its edition's.
-fn all<const LEAVE: bool, const SIZE: usize>(
-    file: &[u8],
-    opened: Opened,
-    queue: &mut [u64],
-    told: &mut [u32],
-) {
-    let mut zeroed = false;
-    let records = records::<SIZE>(file, opened.first, opened.count as usize);
-    for (query, told) in records.zip(told.chunks_exact_mut(8)) {
-        let refusal = query.refusal(queue.len());
-        let mut numbers = [query.id, 0, 0, 0, 0, 0, 0, refusal];
-        if refusal == 0 {
-            if !zeroed {
-                queue.fill(0);
-                zeroed = true;
-            }
-            numbers[1..7].copy_from_slice(&Search::of(&query).run::<LEAVE>(queue));
-        }
-        told.copy_from_slice(&numbers);
-    }
-}
+/// A box's low and high t, u, v, over Q.
+type Ends = [[i64; 2]; 3];
 
 pub struct Search {
-    motion: Motion,
-    separations: [i64; 3],
-    tolerance: i64,
-    budget: u32,
+    asked: Asked,
     count: u32,
     depths: [u32; 3],
     /// t, u, v, excess.
     recorded: [u32; 4],
 }
 
-/// The survivors of a level, or the word that answers.
-type Checked = Result<usize, u32>;
+pub struct Plain;
+
+impl ByHand for Plain {
+    fn search(query: &Query, queue: &mut [u64]) -> Answer {
+        Search::new(Asked::of(query)).run(queue)
+    }
+}
 
 impl Search {
     #[inline(always)]
-    fn of(query: &Query) -> Search {
-        Search::new(Motion::of(query), query.separations, query.tolerance, query.budget)
+    pub fn new(asked: Asked) -> Search {
+        Search { asked, count: 0, depths: [0; 3], recorded: [0; 4] }
     }
 
-    #[inline(always)]
-    pub fn new(motion: Motion, separations: [u32; 3], tolerance: u32, budget: u32) -> Search {
-        Search {
-            motion,
-            separations: separations.map(|d| i64::from(d) * UNIT),
-            tolerance: i64::from(tolerance) * UNIT,
-            budget,
-            count: 0,
-            depths: [0; 3],
-            recorded: [0; 4],
-        }
-    }
-
-    /// Word, t, u, v, excess, count. The queue is zero before and after.
-    pub fn run<const LEAVE: bool>(&mut self, queue: &mut [u64]) -> [u32; 6] {
+    pub fn run(&mut self, queue: &mut [u64]) -> Answer {
         let (first, second) = queue.split_at_mut(queue.len() / 2);
         let half = first.len();
         let (mut present, mut next) = (first, &mut second[..half]);
-        let (mut boxes, mut used) = (1, 1);
+        present[0] = 0;
+        let mut boxes = 1;
         let mut differences = None;
         let word = loop {
-            let survivors = match self.check_level::<LEAVE>(&mut present[..boxes]) {
+            let survivors = match self.check_level(&mut present[..boxes]) {
                 Ok(0) => break CLEAR,
                 Ok(survivors) => survivors,
                 Err(word) => break word,
             };
-            let differences = differences.get_or_insert_with(|| self.motion.differences());
-            let parameter = self.split_parameter(differences);
+            let differences = differences.get_or_insert_with(|| self.asked.differences());
+            let parameter = parameter(differences, &self.depths);
             self.depths[parameter] += 1;
-            let made = self.split(parameter, &present[..survivors], next);
-            used = used.max(made.unwrap_or(half));
-            match made {
+            match self.split(parameter, &present[..survivors], next) {
                 None => break ROOM,
                 Some(made) => boxes = made,
             }
             std::mem::swap(&mut present, &mut next);
         };
-        present[..used].fill(0);
-        next[..used].fill(0);
         let [t, u, v, excess] = if word == CLEAR { [0; 4] } else { self.recorded };
         [word, t, u, v, excess, self.count]
     }
 
-    fn check_level<const LEAVE: bool>(&mut self, level: &mut [u64]) -> Checked {
+    /// The survivors of a level, or the word that answers.
+    fn check_level(&mut self, level: &mut [u64]) -> Result<usize, u32> {
         let mut survivors = 0;
         for n in 0..level.len() {
-            if self.count == self.budget {
+            if self.count == self.asked.budget {
                 return Err(SPENT);
             }
             self.count += 1;
             let word = level[n];
             let ends = self.ends(word);
-            let Some(thin) = self.check::<LEAVE>(&ends) else { continue };
+            let Some(thin) = self.check(&ends) else { continue };
             if survivors == 0 {
                 self.record_first(&ends, thin)?;
             }
@@ -148,25 +91,42 @@ impl Search {
 
     /// Nothing where the box does not survive, else whether its width is within the tolerance.
     #[inline(always)]
-    fn check<const LEAVE: bool>(&self, ends: &Ends) -> Option<bool> {
-        let (mut survives, mut thin) = (true, true);
+    fn check(&self, ends: &Ends) -> Option<bool> {
+        let mut thin = true;
         for axis in 0..3 {
-            let (least, greatest) = self.motion.span(axis, ends);
-            let d = self.separations[axis];
-            survives &= least <= d && greatest >= -d;
-            if LEAVE && !survives {
+            let (least, greatest) = self.span(axis, ends);
+            let d = self.asked.separations[axis];
+            if least > d || greatest < -d {
                 return None;
             }
             // The width itself can be 2 to the 63.
-            thin &= greatest <= least + self.tolerance;
+            thin &= greatest <= least + self.asked.tolerance;
         }
-        survives.then_some(thin)
+        Some(thin)
+    }
+
+    /// Least and greatest of F times Q·Q over a box's eight corners, on one axis.
+    #[inline(always)]
+    fn span(&self, axis: usize, [t, u, v]: &Ends) -> (i64, i64) {
+        let [start, end] = &self.asked.ends;
+        let (mut least, mut greatest) = (i64::MAX, i64::MIN);
+        for t in t {
+            let at = |n: usize| between(start[n][axis], end[n][axis], *t);
+            let (a, b, c) = (Q * at(0), at(1), at(2));
+            for u in u {
+                for v in v {
+                    let f = a + u * b + v * c;
+                    least = least.min(f);
+                    greatest = greatest.max(f);
+                }
+            }
+        }
+        (least, greatest)
     }
 
     fn record_first(&mut self, ends: &Ends, thin: bool) -> Result<(), u32> {
         let low = ends.map(|ends| ends[0]);
-        let excess = self.motion.beyond(low, &self.separations);
-        let excess = ((excess + (UNIT - 1)) / UNIT) as u32;
+        let excess = self.asked.excess(low);
         let [t, u, v] = low.map(|part| part as u32);
         self.recorded = [t, u, v, excess];
         if excess == 0 || thin {
@@ -176,25 +136,6 @@ impl Search {
             return Err(FLOOR);
         }
         Ok(())
-    }
-
-    fn split_parameter(&self, differences: &[i64; 3]) -> usize {
-        let weight = |n: usize| {
-            let depth = self.depths[n];
-            if depth == DEEPEST {
-                -1
-            } else {
-                differences[n] << (DEEPEST - depth)
-            }
-        };
-        let (t, u, v) = (weight(0), weight(1), weight(2));
-        if t >= u && t >= v {
-            0
-        } else if u >= v {
-            1
-        } else {
-            2
-        }
     }
 
     /// Merges the low and the high halves; nothing where there is no room.
@@ -212,7 +153,7 @@ impl Search {
                 highs += 1;
                 high
             };
-            if self.motion.vertex_face && self.outside(word) {
+            if self.asked.is_vertex_face && self.is_outside(word) {
                 continue;
             }
             if made == next.len() {
@@ -224,7 +165,7 @@ impl Search {
         Some(made)
     }
 
-    fn outside(&self, word: u64) -> bool {
+    fn is_outside(&self, word: u64) -> bool {
         let [_, u, v] = self.ends(word);
         u[0] + v[0] > Q
     }

@@ -1,8 +1,9 @@
 //! Records read from their bytes in few instructions.
 
+use super::motion::Points;
 use crate::record::{word_at, EDGE_EDGE, VERTEX_FACE};
-use crate::refusals::{check_words, MOST_BUDGET, MOST_COORDINATE, MOST_SEPARATION};
-use crate::refusals::{LEAST_TOLERANCE, MOST_TOLERANCE};
+use crate::refusals::{LEAST_TOLERANCE, MOST_BUDGET, MOST_COORDINATE};
+use crate::refusals::{MOST_SEPARATION, MOST_TOLERANCE};
 
 /// Bytes of a record of edition 1, and of edition 2.
 pub const ONE: usize = 116;
@@ -10,8 +11,8 @@ pub const TWO: usize = 128;
 /// Bytes of its coordinates, which end it.
 const COORDINATES: usize = 96;
 
-/// A record with its 24 coordinates in the file's order.
-pub struct Query {
+/// A record; its 24 coordinates stay where they stand.
+pub struct Query<'a> {
     kind: u8,
     flags: [u8; 3],
     pub id: u32,
@@ -19,17 +20,13 @@ pub struct Query {
     pub tolerance: u32,
     pub budget: u32,
     spare: u32,
-    pub coordinates: [i32; 24],
+    coordinates: &'a [u8; COORDINATES],
 }
 
-impl Query {
+impl Query<'_> {
     #[inline(always)]
-    pub fn of<const SIZE: usize>(bytes: &[u8; SIZE]) -> Query {
+    pub fn of<const SIZE: usize>(bytes: &[u8; SIZE]) -> Query<'_> {
         let word = |at: usize| word_at(bytes, at);
-        let mut coordinates = [0; 24];
-        for (n, coordinate) in coordinates.iter_mut().enumerate() {
-            *coordinate = word(SIZE - COORDINATES + 4 * n) as i32;
-        }
         Query {
             kind: bytes[0],
             flags: [bytes[1], bytes[2], bytes[3]],
@@ -38,36 +35,65 @@ impl Query {
             tolerance: if SIZE == TWO { word(20) } else { word(12) },
             budget: if SIZE == TWO { word(24) } else { word(16) },
             spare: if SIZE == TWO { word(28) } else { 0 },
-            coordinates,
+            coordinates: bytes.last_chunk().expect("no record is shorter"),
         }
     }
 
-    pub fn vertex_face(&self) -> bool {
+    pub fn is_vertex_face(&self) -> bool {
         self.kind == VERTEX_FACE
     }
 
-    pub fn mirrored(&self) -> bool {
-        self.flags[0] & 1 == 1
+    /// Of a point at an end on an axis, as it stands.
+    #[inline(always)]
+    pub fn coordinate(&self, point: usize, end: usize, axis: usize) -> i32 {
+        word_at(self.coordinates, 4 * (12 * end + 3 * point + axis)) as i32
     }
 
-    /// Refusals 1 to 7, lowest first; 0 for none.
+    /// Refusals 1 to 7, lowest first; 0 for none. 7 is known beforehand, as the queue is the same for all.
     #[inline(always)]
-    pub fn refusal(&self, words: usize) -> u32 {
-        let mut outside = false;
-        for coordinate in self.coordinates {
-            outside |= !(-MOST_COORDINATE..=MOST_COORDINATE).contains(&coordinate);
-        }
+    pub fn refusal(&self, is_no_queue: bool) -> u32 {
         let [flags, byte2, byte3] = self.flags;
         let refused = [
             self.kind != VERTEX_FACE && self.kind != EDGE_EDGE,
-            flags > 1 || byte2 != 0 || byte3 != 0 || self.spare != 0,
-            outside,
+            u32::from(flags & 0xFE) | u32::from(byte2) | u32::from(byte3) | self.spare != 0,
+            self.has_outside(),
             self.separations.iter().any(|d| *d > MOST_SEPARATION),
             !(LEAST_TOLERANCE..=MOST_TOLERANCE).contains(&self.tolerance),
             !(1..=MOST_BUDGET).contains(&self.budget),
-            check_words(words).is_err(),
+            is_no_queue,
         ];
-        refused.iter().position(|refused| *refused).map_or(0, |n| n as u32 + 1)
+        // One test for all that are sound, in place of seven.
+        let bits = (0..7).fold(0_u32, |bits, n| bits | u32::from(refused[n]) << n);
+        if bits == 0 {
+            0
+        } else {
+            bits.trailing_zeros() + 1
+        }
+    }
+
+    #[inline(always)]
+    fn has_outside(&self) -> bool {
+        // From the least allowed on, unsigned: one comparison for both sides, and one for all.
+        let mut furthest = 0;
+        for n in 0..COORDINATES / 4 {
+            let coordinate = word_at(self.coordinates, 4 * n);
+            furthest = coordinate.wrapping_add(MOST_COORDINATE as u32).max(furthest);
+        }
+        furthest > 2 * MOST_COORDINATE as u32
+    }
+}
+
+/// As the search takes them: with the flag, y of the second body is negated.
+impl Points for Query<'_> {
+    #[inline(always)]
+    fn at(&self, point: usize, end: usize, axis: usize) -> i32 {
+        let in_second_body = point >= if self.is_vertex_face() { 1 } else { 2 };
+        let coordinate = self.coordinate(point, end, axis);
+        if axis == 1 && in_second_body && self.flags[0] & 1 == 1 {
+            -coordinate
+        } else {
+            coordinate
+        }
     }
 }
 
@@ -76,7 +102,7 @@ pub fn records<const SIZE: usize>(
     file: &[u8],
     first: usize,
     count: usize,
-) -> impl Iterator<Item = Query> + '_ {
+) -> impl Iterator<Item = Query<'_>> {
     let records = file[first..].chunks_exact(SIZE).take(count);
     records.map(|bytes| Query::of::<SIZE>(bytes.try_into().expect("a chunk of SIZE")))
 }

@@ -1,23 +1,35 @@
-//! Measures the proved search beside an exact one written by hand and 004's method in floats, and the walk through two bodies, in one run.
+//! Measures the proved search beside exact ones written by hand and 004's method in floats, and the walk through two bodies, in one run.
 
+use second::bench::answering::{answers, ByHand};
 use second::bench::bodies::contest;
 use second::bench::corpus::{Class, Corpus, QUEUE_WORDS, SEED};
+use second::bench::fast::Fast;
 use second::bench::float::{queries, Query};
-use second::bench::measure::{by_turns, Contestant, Measured};
-use second::bench::plain;
+use second::bench::measure::{by_turns, Contestant, Measured, ROUNDS};
+use second::bench::plain::Plain;
+use second::bench::table::{self, Head};
 use second::beside::{linked, Library};
 use std::borrow::Borrow;
 use std::collections::BinaryHeap;
 use std::hint::black_box;
 use std::process::ExitCode;
 
-const ROUNDS: usize = 31;
+const HEADS: [Head; 4] = [("ns a query", 1), ("ns a box", 1), ("boxes a query", 1), ("ratio", 2)];
+const GROWTH: [Head; 6] = [
+    ("proved a query", 1),
+    ("by hand a query", 1),
+    ("proved a box", 1),
+    ("by hand a box", 1),
+    ("ratio", 2),
+    ("boxes a query", 1),
+];
 
 fn main() -> ExitCode {
     let corpus = Corpus::new(SEED);
     let library = linked::library();
     let (gangway, hull) = corpus.triangles;
-    println!("berth of seed {SEED}: {gangway} triangles of gangway, {hull} of hull, {QUEUE_WORDS} words, {ROUNDS} rounds");
+    println!("ratio: the time by that of the fastest by hand; {ROUNDS} rounds, queue of {QUEUE_WORDS} words, seed {SEED}");
+    println!("berth: {gangway} triangles of gangway, {hull} of hull");
     for class in &corpus.classes {
         if !alike(&library, class) {
             println!("{}: the answers are not the same", class.name);
@@ -25,6 +37,7 @@ fn main() -> ExitCode {
         }
         show(class, &library);
     }
+    grow(&corpus.by_size, &library);
     clearing();
     if contest::run(&library, SEED, QUEUE_WORDS) {
         ExitCode::SUCCESS
@@ -35,57 +48,68 @@ fn main() -> ExitCode {
 
 /// The proved search and both written by hand give the same numbers.
 fn alike(library: &Library, class: &Class) -> bool {
-    let answers = |by: &dyn Fn(&mut [u64], &mut [u32]) -> u32| {
+    let answers_by = |by: &dyn Fn(&mut [u64], &mut [u32]) -> u32| {
         let (mut queue, mut told) = (vec![1; QUEUE_WORDS], vec![1; 8 * class.queries]);
         (by(&mut queue, &mut told), queue, told)
     };
-    let proved = answers(&|queue, told| library.answers(&class.file, queue, told));
-    let all = answers(&|queue, told| plain::answers::<false>(&class.file, queue, told));
-    let leaves = answers(&|queue, told| plain::answers::<true>(&class.file, queue, told));
-    proved.0 == 0 && proved == all && proved == leaves
+    let proved = answers_by(&|queue, told| library.answers(&class.file, queue, told));
+    let fast = answers_by(&|queue, told| answers::<Fast>(&class.file, queue, told));
+    let plain = answers_by(&|queue, told| answers::<Plain>(&class.file, queue, told));
+    proved.0 == 0 && proved == fast && proved == plain
 }
 
 fn show(class: &Class, library: &Library) {
-    let names_and_times = measured(class, library);
-    let Class { name, queries, .. } = class;
-    let proved = names_and_times[0].1;
-    println!("\n{name}: {queries} queries; {}", words(class));
-    println!(
-        "{:44}{:>12}{:>10}{:>14}{:>10}",
-        "", "ns a query", "ns a box", "boxes a query", "ratio"
-    );
-    for (name, Measured { nanoseconds, boxes }) in names_and_times {
-        let a_query = nanoseconds / *queries as f64;
-        let a_box = nanoseconds / boxes as f64;
-        let boxes = boxes as f64 / *queries as f64;
-        let ratio = nanoseconds / proved.nanoseconds;
-        println!("{name:44}{a_query:>12.1}{a_box:>10.1}{boxes:>14.1}{ratio:>10.2}");
-    }
+    let ready: Vec<Query> = queries(&class.file).collect();
+    let mut contestants = [
+        proved(class, library),
+        one_by_one(class, library),
+        by_hand::<Fast>("by hand, fastest", class),
+        by_hand::<Plain>("by hand, eight corners", class),
+        floats("floats of 004, from the file", || queries(&class.file)),
+        floats("floats of 004, points ready", || ready.iter()),
+    ];
+    let measured = by_turns(&mut contestants, ROUNDS);
+    let fastest = measured[2].nanoseconds;
+    let row = |(one, Measured { nanoseconds, boxes }): (&Contestant, Measured)| {
+        let (queries, boxes) = (class.queries as f64, boxes as f64);
+        let (a_query, a_box) = (nanoseconds / queries, nanoseconds / boxes);
+        (one.name.to_string(), vec![a_query, a_box, boxes / queries, nanoseconds / fastest])
+    };
+    println!("\n{}: {} queries; {}", class.name, class.queries, words(class));
+    table::print(&HEADS, &contestants.iter().zip(measured).map(row).collect::<Vec<_>>());
+}
+
+/// How the time goes up with the boxes of a query.
+fn grow(classes: &[Class], library: &Library) {
+    let rows = classes.iter().map(|class| {
+        let mut two = [proved(class, library), by_hand::<Fast>("by hand", class)];
+        let [proved, fastest] = by_turns(&mut two, ROUNDS);
+        let (queries, boxes) = (class.queries as f64, fastest.boxes as f64);
+        let mut row = table::growth(proved.nanoseconds, fastest.nanoseconds, queries, boxes);
+        row.push(boxes / queries);
+        (format!("{}, {} queries", class.name, class.queries), row)
+    });
+    println!("\ndeeper by their boxes, nanoseconds of the proved and of the fastest by hand");
+    table::print(&GROWTH, &rows.collect::<Vec<_>>());
 }
 
 /// The answers by their words.
 fn words(class: &Class) -> String {
     let (mut queue, mut told) = (vec![0; QUEUE_WORDS], vec![0; 8 * class.queries]);
-    plain::answers::<true>(&class.file, &mut queue, &mut told);
+    answers::<Fast>(&class.file, &mut queue, &mut told);
     let number = |word: u32| told.chunks_exact(8).filter(|told| told[1] == word).count();
     let words = ["MET", "CLEAR", "SPENT", "ROOM"].into_iter().zip(1..);
     words.map(|(name, word)| format!("{name} {} ", number(word))).collect()
 }
 
-fn measured(class: &Class, library: &Library) -> Vec<(&'static str, Measured)> {
-    let ready: Vec<Query> = queries(&class.file).collect();
-    let mut contestants = [
-        called("proved, taperhive_answers", class, |file, queue, told| {
-            library.answers(file, queue, told)
-        }),
-        one_by_one(class, library),
-        called("by hand, eight corners", class, plain::answers::<false>),
-        called("by hand, eight corners, leaves at a miss", class, plain::answers::<true>),
-        floats("floats of 004, from the file", || queries(&class.file)),
-        floats("floats of 004, points ready", || ready.iter()),
-    ];
-    let measured = by_turns(&mut contestants, ROUNDS);
-    contestants.iter().map(|one| one.name).zip(measured).collect()
+fn proved<'a>(class: &'a Class, library: &'a Library) -> Contestant<'a> {
+    called("proved, taperhive_answers", class, |file, queue, told| {
+        library.answers(file, queue, told)
+    })
+}
+
+fn by_hand<'a, S: ByHand + 'a>(name: &'static str, class: &'a Class) -> Contestant<'a> {
+    called(name, class, answers::<S>)
 }
 
 /// A search through the whole file with one call.
@@ -137,6 +161,6 @@ fn clearing() {
         }
         1
     };
-    let once = by_turns(&mut [Contestant { name: "clearing", run: Box::new(run) }], ROUNDS)[0];
+    let [once] = by_turns(&mut [Contestant { name: "clearing", run: Box::new(run) }], ROUNDS);
     println!("\nclearing {QUEUE_WORDS} words once: {:.0} ns", once.nanoseconds);
 }

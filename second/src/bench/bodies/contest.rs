@@ -1,81 +1,110 @@
 //! The library and the walks by hand, measured by turns on the same bodies.
 
-use super::corpus::Class;
+use super::corpus::{Class, COUNTS};
 use super::walk;
-use crate::bench::measure::{by_turns, Contestant, Measured};
+use crate::bench::measure::{by_turns, Contestant, Measured, ROUNDS};
+use crate::bench::table::{self, Head};
 use crate::beside::Library;
 use crate::bodies::{Bodies, MOST_TRIANGLES, QUERIES};
 use std::hint::black_box;
 
-const ROUNDS: usize = 31;
 const WORDS: [&str; 6] = ["REFUSED", "MET", "CLEAR", "SPENT", "ROOM", "FLOOR"];
+const HEADS: [Head; 4] = [("ms a walk", 3), ("ns a query", 2), ("boxes a query", 3), ("ratio", 2)];
+const GROWTH: [Head; 5] = [
+    ("proved a walk", 4),
+    ("by hand a walk", 4),
+    ("proved a pair", 1),
+    ("by hand a pair", 1),
+    ("ratio", 2),
+];
 
 /// Two bodies, a queue and told, as the library takes them.
 type Walked<'a> = Box<dyn Fn(&Bodies, &mut [u64], &mut [u32]) -> u32 + 'a>;
 
 /// Says the figures of every class; false where some answers are not the same.
 pub fn run(library: &Library, seed: u64, words: usize) -> bool {
-    let [most, queries] = [MOST_TRIANGLES, MOST_TRIANGLES * MOST_TRIANGLES * QUERIES as usize];
-    println!("\nbodies of seed {seed}: {most} by {most} triangles, {queries} queries, {words} words, {ROUNDS} rounds");
-    Class::all(seed).iter().all(|class| {
-        let same = alike(library, class, words);
-        if same {
-            show(library, class, words, queries as f64);
-        } else {
-            println!("{}: the answers are not the same", class.name);
+    let classes = Class::all(seed);
+    let bodies = classes.iter().flat_map(|class| COUNTS.map(|count| (class, count)));
+    for (class, count) in bodies.clone() {
+        if !alike(library, &class.bodies(count), words) {
+            println!("{}, {count} triangles: the answers are not the same", class.name);
+            return false;
         }
-        same
-    })
+    }
+    println!("\nbodies: {MOST_TRIANGLES} by {MOST_TRIANGLES} triangles");
+    for class in &classes {
+        show(library, class, words);
+    }
+    let rows = bodies.map(|(class, count)| grow(library, class, count, words));
+    println!("\nbodies by their triangles, milliseconds a walk and nanoseconds a pair");
+    table::print(&GROWTH, &rows.collect::<Vec<_>>());
+    true
 }
 
-/// Those measured, the proved one first.
+/// Those measured.
 fn walks(library: &Library) -> [(&'static str, Walked<'_>); 3] {
     [
         (
             "proved, taperhive_bodies",
             Box::new(|bodies, queue, told| library.bodies(bodies, queue, told)),
         ),
+        ("by hand, fastest", Box::new(walk::bodies::<true>)),
         ("by hand, eight corners", Box::new(walk::bodies::<false>)),
-        ("by hand, level 0 in whole units", Box::new(walk::bodies::<true>)),
     ]
 }
 
 /// All return 0, tell the same, and leave the same queue.
-fn alike(library: &Library, class: &Class, words: usize) -> bool {
+fn alike(library: &Library, bodies: &Bodies, words: usize) -> bool {
     let answers = walks(library).map(|(_, walked)| {
         let (mut queue, mut told) = (vec![1; words], [1; 8]);
-        (walked(&class.bodies(), &mut queue, &mut told), queue, told)
+        (walked(bodies, &mut queue, &mut told), queue, told)
     });
     answers[0].0 == 0 && answers.iter().all(|answer| *answer == answers[0])
 }
 
-fn show(library: &Library, class: &Class, words: usize, queries: f64) {
-    let mut contestants = walks(library).map(|(name, walked)| {
-        let (mut queue, mut told) = (vec![0; words], [0; 8]);
-        let run = move || {
-            walked(black_box(&class.bodies()), &mut queue, &mut told);
-            u64::from(told[6]) | u64::from(told[7]) << 32
-        };
-        Contestant { name, run: Box::new(run) }
-    });
-    println!("\n{}: {}", class.name, answer(class, words));
-    println!(
-        "{:44}{:>10}{:>12}{:>15}{:>10}",
-        "", "ms a walk", "ns a query", "boxes a query", "ratio"
-    );
+/// A walk through so many triangles of both.
+fn contestant<'a>(
+    (name, walked): (&'static str, Walked<'a>),
+    class: &'a Class,
+    count: usize,
+    words: usize,
+) -> Contestant<'a> {
+    let (mut queue, mut told) = (vec![0; words], [0; 8]);
+    let run = move || {
+        walked(black_box(&class.bodies(count)), &mut queue, &mut told);
+        u64::from(told[6]) | u64::from(told[7]) << 32
+    };
+    Contestant { name, run: Box::new(run) }
+}
+
+fn show(library: &Library, class: &Class, words: usize) {
+    let queries = (MOST_TRIANGLES * MOST_TRIANGLES * QUERIES as usize) as f64;
+    let mut contestants =
+        walks(library).map(|walked| contestant(walked, class, MOST_TRIANGLES, words));
     let measured = by_turns(&mut contestants, ROUNDS);
-    let proved = measured[0].nanoseconds;
-    for (one, Measured { nanoseconds, boxes }) in contestants.iter().zip(measured) {
+    let fastest = measured[1].nanoseconds;
+    let row = |(one, Measured { nanoseconds, boxes }): (&Contestant, Measured)| {
         let (walk, a_query) = (nanoseconds / 1e6, nanoseconds / queries);
-        let (boxes, ratio) = (boxes as f64 / queries, nanoseconds / proved);
-        println!("{:44}{walk:>10.1}{a_query:>12.1}{boxes:>15.3}{ratio:>10.2}", one.name);
-    }
+        let numbers = vec![walk, a_query, boxes as f64 / queries, nanoseconds / fastest];
+        (one.name.to_string(), numbers)
+    };
+    println!("\n{}: {}", class.name, answer(class, words));
+    table::print(&HEADS, &contestants.iter().zip(measured).map(row).collect::<Vec<_>>());
+}
+
+/// How the time goes up with the triangles.
+fn grow(library: &Library, class: &Class, count: usize, words: usize) -> (String, Vec<f64>) {
+    let [proved, fastest, _] = walks(library);
+    let mut two = [proved, fastest].map(|walked| contestant(walked, class, count, words));
+    let [proved, fastest] = by_turns(&mut two, ROUNDS).map(|measured| measured.nanoseconds);
+    let row = table::growth(proved, fastest, 1e6, (count * count) as f64);
+    (format!("{}, {count} by {count}", class.name), row)
 }
 
 /// What a walk by hand is answered.
 fn answer(class: &Class, words: usize) -> String {
     let (mut queue, mut told) = (vec![0; words], [0; 8]);
-    walk::bodies::<true>(&class.bodies(), &mut queue, &mut told);
+    walk::bodies::<true>(&class.bodies(MOST_TRIANGLES), &mut queue, &mut told);
     let [word, t, a, b, query, excess, ..] = told;
     let word = WORDS[word as usize];
     format!("{word}, t {t}, triangles {a} and {b}, query {query}, excess {excess}")

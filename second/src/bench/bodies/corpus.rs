@@ -1,6 +1,6 @@
 //! A gangway and a ship's side of 256 triangles each, far apart, near each other, and touching.
 
-use crate::bodies::{Bodies, Body, MOST_TRIANGLES};
+use crate::bodies::{Bodies, Body, MOST_TRIANGLES, NUMBERS};
 use crate::rng::Rng;
 
 /// Units of a centimetre.
@@ -13,6 +13,8 @@ const ROW: i32 = 16;
 /// Plates are uneven by so much.
 const UNEVEN: i32 = CENTIMETRE;
 
+/// Triangles of both bodies, from few to all.
+pub const COUNTS: [usize; 5] = [16, 32, 64, 128, MOST_TRIANGLES];
 pub const TOLERANCE: u32 = 200;
 pub const BUDGET: u32 = 1_000;
 /// 5 cm on each axis.
@@ -41,11 +43,12 @@ impl Class {
             .map(|(name, heights)| Class { name, positions: bodies(&mut rng, &heights) })
     }
 
-    pub fn bodies(&self) -> Bodies<'_> {
+    /// The first so many triangles of both.
+    pub fn bodies(&self, count: usize) -> Bodies<'_> {
         let [a, b] = self.positions.each_ref().map(|[start, end]| Body {
-            count: MOST_TRIANGLES,
-            start,
-            end,
+            count,
+            start: &start[..NUMBERS * count],
+            end: &end[..NUMBERS * count],
         });
         Bodies { a, b, separations: SEPARATIONS, tolerance: TOLERANCE, budget: BUDGET }
     }

@@ -1,5 +1,6 @@
-//! Two bodies of 256 triangles, and a walk through them written by hand.
+//! Two bodies of 256 triangles, and walks through them written by hand.
 
 pub mod contest;
 pub mod corpus;
+mod reach;
 pub mod walk;

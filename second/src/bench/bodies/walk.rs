@@ -1,43 +1,35 @@
-//! An exact walk written by hand for speed: same answers and refusals as `taperhive_bodies`. Its yardstick is time, not proof.
+//! Exact walks written by hand: same answers and refusals as `taperhive_bodies`. Their yardstick is time, not proof.
 
-use crate::bench::motion::Motion;
-use crate::bench::plain::Search;
-use crate::bodies::{Bodies, Body, MOST_TRIANGLES, NUMBERS};
+use super::reach::Reaches;
+use crate::bench::answering::CLEAR;
+use crate::bench::fast::{self, cube};
+use crate::bench::motion::{Asked, Points, Terms};
+use crate::bench::plain;
+use crate::bodies::{Bodies, Body, Triangle, MOST_TRIANGLES, NUMBERS, QUERIES};
+use crate::record::Point;
 use crate::refusals::{check_words, LEAST_TOLERANCE, MOST_BUDGET, MOST_COORDINATE};
 use crate::refusals::{MOST_SEPARATION, MOST_TOLERANCE};
 
 const BODY: u32 = 21;
 const SPACE: u32 = 14;
-const CLEAR: u32 = 2;
 
-/// A corner's x, y, z at the start and at the end.
-type Corner = [[i64; 3]; 2];
-type Triangle = [Corner; 3];
-
-/// As `taperhive_bodies`. With UNSCALED the box of level 0 is worked out in whole units, and a search begins only where it survives.
-pub fn bodies<const UNSCALED: bool>(bodies: &Bodies, queue: &mut [u64], told: &mut [u32]) -> u32 {
+/// As `taperhive_bodies`. FAST passes pairs by that are apart and has the fast search; else every query has the plain one.
+pub fn bodies<const FAST: bool>(bodies: &Bodies, queue: &mut [u64], told: &mut [u32]) -> u32 {
     let number = refusal(bodies, queue.len());
     if number != 0 {
         return number;
     }
     let Some(told) = told.first_chunk_mut::<8>() else { return SPACE };
-    queue.fill(0);
-    let (a, b) = (triangles(&bodies.a), triangles(&bodies.b));
-    let mut walk = Walk {
-        separations: bodies.separations,
-        wide: bodies.separations.map(i64::from),
-        tolerance: bodies.tolerance,
-        budget: bodies.budget,
-        queue,
-        sum: 0,
-        least: [CLEAR, u32::MAX, 0, 0, 0, 0],
-    };
-    for (m, a) in a.iter().enumerate() {
-        for (n, b) in b.iter().enumerate() {
-            walk.pair::<UNSCALED>([m as u32, n as u32], a, b);
-        }
+    let Bodies { a, b, separations, tolerance, budget } = *bodies;
+    let terms = Terms { separations, tolerance, budget };
+    let mut walk = Walk { terms, queue, sum: 0, least: [CLEAR, u32::MAX, 0, 0, 0, 0] };
+    if FAST {
+        walk.near_pairs(&a, &b);
+    } else {
+        walk.all_pairs(&a, &b);
     }
     *told = walk.told();
+    walk.queue.fill(0);
     0
 }
 
@@ -82,17 +74,27 @@ fn is_outside(coordinates: &[i32]) -> bool {
     coordinates.iter().fold(false, |any, coordinate| any | outside(coordinate))
 }
 
-fn triangles(body: &Body) -> Vec<Triangle> {
-    let both = body.start.chunks_exact(NUMBERS).zip(body.end.chunks_exact(NUMBERS));
-    let corner = |list: &[i32], n: usize| [0, 1, 2].map(|axis| i64::from(list[3 * n + axis]));
-    both.map(|(start, end)| [0, 1, 2].map(|n| [corner(start, n), corner(end, n)])).collect()
+/// Triangle n of a body, straight from its lists.
+#[inline(always)]
+pub fn triangle(body: &Body, n: usize) -> Triangle {
+    [body.start, body.end].map(|list| {
+        let numbers: &[i32; NUMBERS] = list[NUMBERS * n..][..NUMBERS].try_into().expect("nine");
+        [0, 3, 6].map(|at| [numbers[at], numbers[at + 1], numbers[at + 2]])
+    })
+}
+
+/// A query's points, each at the start and at the end.
+type FourCorners = [[Point; 2]; 4];
+
+impl Points for FourCorners {
+    #[inline(always)]
+    fn at(&self, point: usize, end: usize, axis: usize) -> i32 {
+        self[point][end][axis]
+    }
 }
 
 struct Walk<'a> {
-    separations: [u32; 3],
-    wide: [i64; 3],
-    tolerance: u32,
-    budget: u32,
+    terms: Terms,
     queue: &'a mut [u64],
     sum: u64,
     /// Word, t, triangle of A, triangle of B, query, excess.
@@ -100,64 +102,70 @@ struct Walk<'a> {
 }
 
 impl Walk<'_> {
-    #[inline(always)]
-    fn pair<const UNSCALED: bool>(&mut self, at: [u32; 2], a: &Triangle, b: &Triangle) {
-        for (n, corner) in a.iter().enumerate() {
-            self.ask::<true, UNSCALED>(at, 1 + n as u32, [corner, &b[0], &b[1], &b[2]]);
+    fn all_pairs(&mut self, a: &Body, b: &Body) {
+        for m in 0..a.count {
+            let of_a = triangle(a, m);
+            for n in 0..b.count {
+                self.pair::<false>([m as u32, n as u32], &of_a, &triangle(b, n));
+            }
         }
-        for (n, corner) in b.iter().enumerate() {
-            self.ask::<true, UNSCALED>(at, 4 + n as u32, [corner, &a[0], &a[1], &a[2]]);
+    }
+
+    /// The queries of a pair that is apart are counted, and not asked.
+    fn near_pairs(&mut self, a: &Body, b: &Body) {
+        let reaches = Reaches::of(b);
+        for m in 0..a.count {
+            let of_a = triangle(a, m);
+            let near = reaches.near(&of_a, &self.terms.separations);
+            let pairs = near.iter().filter(|near| **near).count();
+            self.sum += u64::from(QUERIES) * (b.count - pairs) as u64;
+            if pairs > 0 {
+                for n in (0..b.count).filter(|n| near[*n]) {
+                    self.pair::<true>([m as u32, n as u32], &of_a, &triangle(b, n));
+                }
+            }
         }
-        let mut query = 7;
-        for (from, to) in [(0, 1), (1, 2), (2, 0)] {
-            for (start, end) in [(0, 1), (1, 2), (2, 0)] {
-                let points = [&a[from], &a[to], &b[start], &b[end]];
-                self.ask::<false, UNSCALED>(at, query, points);
-                query += 1;
+    }
+
+    #[inline(never)]
+    fn pair<const FAST: bool>(&mut self, at: [u32; 2], a: &Triangle, b: &Triangle) {
+        let corner = |triangle: &Triangle, n: usize| [triangle[0][n], triangle[1][n]];
+        let [a, b] = [a, b].map(|triangle| [0, 1, 2].map(|n| corner(triangle, n)));
+        for (corner, query) in a.into_iter().zip(1..) {
+            self.ask::<true, FAST>(at, query, [corner, b[0], b[1], b[2]]);
+        }
+        for (corner, query) in b.into_iter().zip(4..) {
+            self.ask::<true, FAST>(at, query, [corner, a[0], a[1], a[2]]);
+        }
+        for m in 0..3 {
+            for n in 0..3 {
+                let points = [a[m], a[(m + 1) % 3], b[n], b[(n + 1) % 3]];
+                self.ask::<false, FAST>(at, (7 + 3 * m + n) as u32, points);
             }
         }
     }
 
     #[inline(always)]
-    fn ask<const VERTEX_FACE: bool, const UNSCALED: bool>(
+    fn ask<const VERTEX_FACE: bool, const FAST: bool>(
         &mut self,
         at: [u32; 2],
         query: u32,
-        points: [&Corner; 4],
+        points: FourCorners,
     ) {
-        if UNSCALED && self.misses::<VERTEX_FACE>(&points) {
+        if FAST && cube::misses(VERTEX_FACE, &self.terms.separations, &points) {
             self.sum += 1;
             return;
         }
-        let motion = Motion::new(VERTEX_FACE, |point, end, axis| points[point][end][axis]);
-        let mut search = Search::new(motion, self.separations, self.tolerance, self.budget);
-        let [word, t, _, _, excess, count] = search.run::<true>(self.queue);
+        let asked = Asked::new(VERTEX_FACE, &self.terms, &points);
+        let [word, t, _, _, excess, count] = if FAST {
+            fast::search(&asked, self.queue)
+        } else {
+            plain::Search::new(asked).run(self.queue)
+        };
         self.sum += u64::from(count);
         if word != CLEAR && (self.least[0] == CLEAR || t < self.least[1]) {
             self.least = [word, t, at[0], at[1], query, excess];
         }
-    }
-
-    /// True where the eight corners of level 0 are beyond the separation on one side of some axis.
-    #[inline(always)]
-    fn misses<const VERTEX_FACE: bool>(&self, points: &[&Corner; 4]) -> bool {
-        (0..3).any(|axis| {
-            let (mut least, mut greatest) = (i64::MAX, i64::MIN);
-            for end in [0, 1] {
-                let p = |n: usize| points[n][end][axis];
-                let corners = if VERTEX_FACE {
-                    let fourth = p(2) + p(3) - p(1);
-                    [p(0) - p(1), p(0) - p(2), p(0) - p(3), p(0) - fourth]
-                } else {
-                    [p(0) - p(2), p(0) - p(3), p(1) - p(2), p(1) - p(3)]
-                };
-                for f in corners {
-                    least = least.min(f);
-                    greatest = greatest.max(f);
-                }
-            }
-            least > self.wide[axis] || greatest < -self.wide[axis]
-        })
     }
 
     fn told(&self) -> [u32; 8] {

@@ -1,0 +1,54 @@
+//! Pairs of triangles that are further apart on an axis than the separation: all their queries miss at level 0.
+
+use super::walk::triangle;
+use crate::bodies::{Body, Triangle, MOST_TRIANGLES};
+
+/// What a triangle reaches on an axis: its corners and the fourth of its parallelogram, at the start and at the end.
+fn reach(triangle: &Triangle, axis: usize) -> [i32; 2] {
+    let [start, end] = triangle.each_ref().map(|[p, q, r]| {
+        let (p, q, r) = (p[axis], q[axis] - p[axis], r[axis] - p[axis]);
+        [p + q.min(0) + r.min(0), p + q.max(0) + r.max(0)]
+    });
+    [start[0].min(end[0]), start[1].max(end[1])]
+}
+
+/// The reaches of a body, axis by axis, so that neighbours are compared at once.
+pub struct Reaches {
+    count: usize,
+    least: [[i32; MOST_TRIANGLES]; 3],
+    greatest: [[i32; MOST_TRIANGLES]; 3],
+}
+
+impl Reaches {
+    pub fn of(body: &Body) -> Reaches {
+        let none = [[0; MOST_TRIANGLES]; 3];
+        let mut reaches = Reaches { count: body.count, least: none, greatest: none };
+        for n in 0..body.count {
+            let triangle = triangle(body, n);
+            for axis in 0..3 {
+                [reaches.least[axis][n], reaches.greatest[axis][n]] = reach(&triangle, axis);
+            }
+        }
+        reaches
+    }
+
+    /// Which triangles are not apart from one of the other body: z first, and x and y only where that leaves some.
+    pub fn near(&self, other: &Triangle, separations: &[u32; 3]) -> [bool; MOST_TRIANGLES] {
+        let mut all = [false; MOST_TRIANGLES];
+        let near = &mut all[..self.count];
+        near.fill(true);
+        for axis in [2, 0, 1] {
+            let [least, greatest] = reach(other, axis);
+            let d = separations[axis] as i32;
+            let (from, to) = (least - d, greatest + d);
+            let reaches = self.least[axis].iter().zip(&self.greatest[axis]);
+            for (near, (least, greatest)) in near.iter_mut().zip(reaches) {
+                *near &= (*least <= to) & (*greatest >= from);
+            }
+            if !near.iter().fold(false, |any, near| any | near) {
+                break;
+            }
+        }
+        all
+    }
+}
