@@ -30,13 +30,12 @@ use Rattle.rules.specs.Bodies.{Body, Asked, sumOf, counted, heard, hearAll, fac
 use Rattle.kernel.specs.declared.Kernel.{Kernel}
 use Rattle.gap.specs.declared.span.Span.{Span}
 use Rattle.gap.specs.Corners.{meets, joined}
-use Rattle.gap.specs.Cube.{squareOf, cubeOf, wholeCube, meets-whole}
+use Rattle.gap.specs.Cube.{squareOf, cubeOf, wholeCube, meets-whole, cubeMost}
+use Rattle.gap.specs.Steps.{SmallSpan}
 use Rattle.gap.specs.Prepared.{axisOf, misses-any}
-use Rattle.kernel.specs.Ranges.{Small}
-use Rattle.whole.specs.Within.{Within, within-sub, within-pos, within-more}
-use Rattle.refusals.specs.Accepted.{accepted-search}
 use Rattle.search.specs.Whole.{search-clear}
 use Rattle.triangles.specs.Members.{All, askAt}
+use Rattle.bodies.specs.declared.apart.Reach.{Reach}
 use Rattle.bodies.specs.Asking.{body}
 use Rattle.bodies.specs.Walk.{positions}
 
@@ -214,15 +213,32 @@ end-holds s e at =
     (subst (λ (x : ℤ). Holds (squareOf x (triangleAt s e at .b1) (triangleAt s e at .c1)) (getD e at (pos 0)) (getD e (at + 3) (pos 0)) (getD e (at + 6) (pos 0))) (sym (first-is (getD e at (pos 0))))
     (triangle-holds (getD e at (pos 0)) (getD e (at + 3) (pos 0)) (getD e (at + 6) (pos 0))))
 
--- what the test on an axis relies on
-pub record OnAxis (a0 a1 : List ℤ) (a : ℕ) (b0 b1 : List ℤ) (b d : ℕ) : Type 0 where
-  pub a-start : a + 7 ≤ length a0
-  pub a-end : a + 7 ≤ length a1
-  pub b-start : b + 7 ≤ length b0
-  pub b-end : b + 7 ≤ length b1
-  pub a-small : Small (triangleAt a0 a1 a)
-  pub b-small : Small (triangleAt b0 b1 b)
-  pub most : d ≤ 65_536
+-- triangle i is there at both moments
+abbrev pub HasTriangle : List ℤ → List ℤ → ℕ → Type 0
+HasTriangle s e i = (9 * i + 9 ≤ length s) × (9 * i + 9 ≤ length e)
+
+-- on each axis
+abbrev pub onReach : Reach → Axis → Span
+onReach r X = r .x
+onReach r Y = r .y
+onReach r Z = r .z
+
+pub record WideReach (r : Reach) : Type 0 where
+  pub x : SmallSpan cubeMost (r .x)
+  pub y : SmallSpan cubeMost (r .y)
+  pub z : SmallSpan cubeMost (r .z)
+
+pub record ReachIs (s e : List ℤ) (i : ℕ) (r : Reach) : Type 0 where
+  pub is : (axis : Axis) → onReach r axis ≡ reachAt s e (9 * i + place axis)
+  pub wide : WideReach r
+
+pub reach-is : {s e : List ℤ} {i : ℕ} {r : Reach} → r .x ≡ reachAt s e (9 * i + 0) → r .y ≡ reachAt s e (9 * i + 1) → r .z ≡ reachAt s e (9 * i + 2) → WideReach r → ReachIs s e i r
+reach-is {s} {e} {i} {r} x y z wide = record { is = each; wide = wide }
+  where
+    each : (axis : Axis) → onReach r axis ≡ reachAt s e (9 * i + place axis)
+    each X = x
+    each Y = y
+    each Z = z
 
 abbrev pub separationIn : Terms → Axis → ℕ
 separationIn w X = w .dx
@@ -232,6 +248,13 @@ separationIn w Z = w .dz
 -- apart on some axis
 pub data Distant (w : Terms) (a0 a1 b0 b1 : List ℤ) (i j : ℕ) : Type 0 where
   distant : (axis : Axis) → Further (reachAt a0 a1 (9 * i + place axis)) (reachAt b0 b1 (9 * j + place axis)) (separationIn w axis) → Distant w a0 a1 b0 b1 i j
+
+-- the same by the reach of A's triangle
+pub data DistantFrom (w : Terms) (r : Reach) (b0 b1 : List ℤ) (j : ℕ) : Type 0 where
+  distant-from : (axis : Axis) → Further (onReach r axis) (reachAt b0 b1 (9 * j + place axis)) (separationIn w axis) → DistantFrom w r b0 b1 j
+
+pub by-reach : {w : Terms} {a0 a1 b0 b1 : List ℤ} {i j : ℕ} {r : Reach} → ReachIs a0 a1 i r → DistantFrom w r b0 b1 j → Distant w a0 a1 b0 b1 i j
+by-reach {w} {a0} {a1} {b0} {b1} {i} {j} h (distant-from axis f) = distant axis (subst (λ (P : Span). Further P (reachAt b0 b1 (9 * j + place axis)) (separationIn w axis)) (h .is axis) f)
 
 -- ---- the fifteen queries
 
@@ -412,100 +435,6 @@ module _ (w : Terms) (a0 a1 b0 b1 : List ℤ) (i j words : ℕ) where
       each-clear axis 1 fifteen
       (m 0 (lit< tt), (m 1 (lit< tt), (m 2 (lit< tt), (m 3 (lit< tt), (m 4 (lit< tt), (m 5 (lit< tt), (m 6 (lit< tt), (m 7 (lit< tt), (m 8 (lit< tt), (m 9 (lit< tt), (m 10 (lit< tt), (m 11 (lit< tt), (m 12 (lit< tt), (m 13 (lit< tt), (m 14 (lit< tt), tt)))))))))))))))
       h
-
-  -- ---- the spans are small
-
-  p-start : (axis : Axis) (k : Ask) → searchRefusal (ask w a0 a1 b0 b1 i j axis k) words ≡ 0 → Within 1_048_576 (S w a0 a1 b0 b1 i j axis (k .p))
-  unfolding askOf
-  p-start X k e = record { most = accepted-search (ask w a0 a1 b0 b1 i j X k) words e .query .coordinate 0 }
-  p-start Y k e = record { most = accepted-search (ask w a0 a1 b0 b1 i j Y k) words e .query .coordinate 1 }
-  p-start Z k e = record { most = accepted-search (ask w a0 a1 b0 b1 i j Z k) words e .query .coordinate 2 }
-
-  p-end : (axis : Axis) (k : Ask) → searchRefusal (ask w a0 a1 b0 b1 i j axis k) words ≡ 0 → Within 1_048_576 (E w a0 a1 b0 b1 i j axis (k .p))
-  unfolding askOf
-  p-end X k e = record { most = accepted-search (ask w a0 a1 b0 b1 i j X k) words e .query .coordinate 12 }
-  p-end Y k e = record { most = accepted-search (ask w a0 a1 b0 b1 i j Y k) words e .query .coordinate 13 }
-  p-end Z k e = record { most = accepted-search (ask w a0 a1 b0 b1 i j Z k) words e .query .coordinate 14 }
-
-  q-start : (axis : Axis) (k : Ask) → searchRefusal (ask w a0 a1 b0 b1 i j axis k) words ≡ 0 → Within 1_048_576 (S w a0 a1 b0 b1 i j axis (k .q))
-  unfolding askOf
-  q-start X k e = record { most = accepted-search (ask w a0 a1 b0 b1 i j X k) words e .query .coordinate 3 }
-  q-start Y k e = record { most = accepted-search (ask w a0 a1 b0 b1 i j Y k) words e .query .coordinate 4 }
-  q-start Z k e = record { most = accepted-search (ask w a0 a1 b0 b1 i j Z k) words e .query .coordinate 5 }
-
-  q-end : (axis : Axis) (k : Ask) → searchRefusal (ask w a0 a1 b0 b1 i j axis k) words ≡ 0 → Within 1_048_576 (E w a0 a1 b0 b1 i j axis (k .q))
-  unfolding askOf
-  q-end X k e = record { most = accepted-search (ask w a0 a1 b0 b1 i j X k) words e .query .coordinate 15 }
-  q-end Y k e = record { most = accepted-search (ask w a0 a1 b0 b1 i j Y k) words e .query .coordinate 16 }
-  q-end Z k e = record { most = accepted-search (ask w a0 a1 b0 b1 i j Z k) words e .query .coordinate 17 }
-
-  r-start : (axis : Axis) (k : Ask) → searchRefusal (ask w a0 a1 b0 b1 i j axis k) words ≡ 0 → Within 1_048_576 (S w a0 a1 b0 b1 i j axis (k .r))
-  unfolding askOf
-  r-start X k e = record { most = accepted-search (ask w a0 a1 b0 b1 i j X k) words e .query .coordinate 6 }
-  r-start Y k e = record { most = accepted-search (ask w a0 a1 b0 b1 i j Y k) words e .query .coordinate 7 }
-  r-start Z k e = record { most = accepted-search (ask w a0 a1 b0 b1 i j Z k) words e .query .coordinate 8 }
-
-  r-end : (axis : Axis) (k : Ask) → searchRefusal (ask w a0 a1 b0 b1 i j axis k) words ≡ 0 → Within 1_048_576 (E w a0 a1 b0 b1 i j axis (k .r))
-  unfolding askOf
-  r-end X k e = record { most = accepted-search (ask w a0 a1 b0 b1 i j X k) words e .query .coordinate 18 }
-  r-end Y k e = record { most = accepted-search (ask w a0 a1 b0 b1 i j Y k) words e .query .coordinate 19 }
-  r-end Z k e = record { most = accepted-search (ask w a0 a1 b0 b1 i j Z k) words e .query .coordinate 20 }
-
-  s-start : (axis : Axis) (k : Ask) → searchRefusal (ask w a0 a1 b0 b1 i j axis k) words ≡ 0 → Within 1_048_576 (S w a0 a1 b0 b1 i j axis (k .s))
-  unfolding askOf
-  s-start X k e = record { most = accepted-search (ask w a0 a1 b0 b1 i j X k) words e .query .coordinate 9 }
-  s-start Y k e = record { most = accepted-search (ask w a0 a1 b0 b1 i j Y k) words e .query .coordinate 10 }
-  s-start Z k e = record { most = accepted-search (ask w a0 a1 b0 b1 i j Z k) words e .query .coordinate 11 }
-
-  s-end : (axis : Axis) (k : Ask) → searchRefusal (ask w a0 a1 b0 b1 i j axis k) words ≡ 0 → Within 1_048_576 (E w a0 a1 b0 b1 i j axis (k .s))
-  unfolding askOf
-  s-end X k e = record { most = accepted-search (ask w a0 a1 b0 b1 i j X k) words e .query .coordinate 21 }
-  s-end Y k e = record { most = accepted-search (ask w a0 a1 b0 b1 i j Y k) words e .query .coordinate 22 }
-  s-end Z k e = record { most = accepted-search (ask w a0 a1 b0 b1 i j Z k) words e .query .coordinate 23 }
-
-  near-kernel : (s e : List ℤ) (at : ℕ) → Within 1_048_576 (getD s at (pos 0)) → Within 1_048_576 (getD s (at + 3) (pos 0)) → Within 1_048_576 (getD s (at + 6) (pos 0))
-      → Within 1_048_576 (getD e at (pos 0)) → Within 1_048_576 (getD e (at + 3) (pos 0)) → Within 1_048_576 (getD e (at + 6) (pos 0)) → Small (triangleAt s e at)
-  near-kernel s e at x y z x′ y′ z′ =
-      record {
-        a0 = within-more (lit≤ tt) (within-sub x (within-pos 0));
-        b0 = within-sub y x;
-        c0 = within-sub z x;
-        a1 = within-more (lit≤ tt) (within-sub x′ (within-pos 0));
-        b1 = within-sub y′ x′;
-        c1 = within-sub z′ x′;
-      }
-
-  back : (axis : Axis) (l : List ℤ) (m n x : ℕ) → x ≡ 9 * m + place axis + 3 * n → Within 1_048_576 (getD l (off axis (9 * m + 3 * n)) (pos 0)) → Within 1_048_576 (getD l x (pos 0))
-  back axis l m n x e h = subst (Within 1_048_576) (sym (same-at axis l m n x e)) h
-
-  module _ (none : All (λ q. searchRefusal (q .ask) words ≡ 0) (pairQueries w (positions a0 a1) (positions b0 b1) i j)) where
-    pub small-a : (axis : Axis) → Small (triangleAt a0 a1 (9 * i + place axis))
-    unfolding All askedFrom
-    small-a axis =
-        near-kernel a0 a1 (9 * i + place axis)
-        (back axis a0 i 0 _ (omega arith) (p-start axis (face 0 3 4 5) (none .0)))
-        (back axis a0 i 1 _ (omega arith) (p-start axis (face 1 3 4 5) (none .1 .0)))
-        (back axis a0 i 2 _ (omega arith) (p-start axis (face 2 3 4 5) (none .1 .1 .0)))
-        (back axis a1 i 0 _ (omega arith) (p-end axis (face 0 3 4 5) (none .0)))
-        (back axis a1 i 1 _ (omega arith) (p-end axis (face 1 3 4 5) (none .1 .0)))
-        (back axis a1 i 2 _ (omega arith) (p-end axis (face 2 3 4 5) (none .1 .1 .0)))
-
-    pub small-b : (axis : Axis) → Small (triangleAt b0 b1 (9 * j + place axis))
-    unfolding All askedFrom
-    small-b axis =
-        near-kernel b0 b1 (9 * j + place axis)
-        (back axis b0 j 0 _ (omega arith) (q-start axis (face 0 3 4 5) (none .0)))
-        (back axis b0 j 1 _ (omega arith) (r-start axis (face 0 3 4 5) (none .0)))
-        (back axis b0 j 2 _ (omega arith) (s-start axis (face 0 3 4 5) (none .0)))
-        (back axis b1 j 0 _ (omega arith) (q-end axis (face 0 3 4 5) (none .0)))
-        (back axis b1 j 1 _ (omega arith) (r-end axis (face 0 3 4 5) (none .0)))
-        (back axis b1 j 2 _ (omega arith) (s-end axis (face 0 3 4 5) (none .0)))
-
-    pub separations : (axis : Axis) → separationIn w axis ≤ 65_536
-    unfolding All askedFrom askOf
-    separations X = accepted-search (ask w a0 a1 b0 b1 i j X (face 0 3 4 5)) words (none .0) .query .dx
-    separations Y = accepted-search (ask w a0 a1 b0 b1 i j Y (face 0 3 4 5)) words (none .0) .query .dy
-    separations Z = accepted-search (ask w a0 a1 b0 b1 i j Z (face 0 3 4 5)) words (none .0) .query .dz
 
 -- ---- and heard
 

@@ -1,13 +1,14 @@
 // Two triangles that are further apart on an axis than the separation: all their queries miss over the whole cube, so that none is asked.
 ghost use mathlib.Core.Path.{_≡_};
 ghost use mathlib.Core.Bool.{true};
-ghost use Prim.Native.Nat.{_+_, _*_, _≤_};
+ghost use Prim.Native.Nat.{_+_, _≤_};
 ghost use lib.ListN.{length};
-ghost use Rattle.bodies.specs.Apart.{triangleAt, reachAt, Further, OnAxis, Distant};
-ghost use Rattle.bodies.specs.Walk.{OfPair};
+ghost use Rattle.gap.specs.Cube.{Wide, cubeMost};
+ghost use Rattle.gap.specs.Steps.{SmallSpan};
+ghost use Rattle.bodies.specs.Apart.{triangleAt, reachAt, Further, HasTriangle, ReachIs, WideReach, DistantFrom};
 use gap::cube::over_cube;
+use gap::span::Span;
 use kernel::Kernel;
-use rules::BodyAnswer;
 use rules::Terms;
 use whole::minus;
 
@@ -22,6 +23,7 @@ const Z: usize = 2;
 fn triangle_at(s: &[i32], e: &[i32], at: usize) -> Kernel
     requires { ⌜ (at + 7 ≤ length (now s)) × (at + 7 ≤ length (now e)) ⌝ }
     ensures { λ r. ⌜ r ≡ triangleAt (now (s .entry)) (now (e .entry)) at ⌝ }
+    ensures { λ r. ⌜ Wide r ⌝ }
 {
     let a0 = minus(s[at], 0);
     let b0 = minus(s[at + 3], s[at]);
@@ -39,39 +41,45 @@ fn triangle_at(s: &[i32], e: &[i32], at: usize) -> Kernel
     }
 }
 
-// Whether triangle a of A and triangle b of B, by the places of their first coordinates on an axis, are further apart there than d.
-fn apart_on(a0: &[i32], a1: &[i32], a: usize, b0: &[i32], b1: &[i32], b: usize, d: u32) -> bool
-    requires { ⌜ OnAxis (now a0) (now a1) a (now b0) (now b1) b d ⌝ }
-    ensures { λ r. ⌜ (r ≡ true → Further (reachAt (now (a0 .entry)) (now (a1 .entry)) a) (reachAt (now (b0 .entry)) (now (b1 .entry)) b) d) ⌝ }
+// What a triangle reaches on each axis.
+pub struct Reach {
+    pub x: Span,
+    pub y: Span,
+    pub z: Span,
+}
+
+pub fn reach_of(s: &[i32], e: &[i32], i: usize) -> Reach
+    requires { ⌜ HasTriangle (now s) (now e) i ⌝ }
+    ensures { λ r. ⌜ ReachIs (now (s .entry)) (now (e .entry)) i r ⌝ }
 {
-    let p = over_cube(triangle_at(a0, a1, a));
-    let q = over_cube(triangle_at(b0, b1, b));
+    let x = over_cube(triangle_at(s, e, 9 * i + X));
+    let y = over_cube(triangle_at(s, e, 9 * i + Y));
+    let z = over_cube(triangle_at(s, e, 9 * i + Z));
+    Reach { x, y, z }
+}
+
+// Whether what a triangle of A reaches on an axis and a triangle of B, by the place of its first coordinate there, are further apart than d.
+fn apart_on(p: Span, s: &[i32], e: &[i32], at: usize, d: u32) -> bool
+    requires { ⌜ SmallSpan cubeMost p × ((at + 7 ≤ length (now s)) × (at + 7 ≤ length (now e))) ⌝ }
+    ensures { λ r. ⌜ (r ≡ true → Further p (reachAt (now (s .entry)) (now (e .entry)) at) d) ⌝ }
+{
+    let q = over_cube(triangle_at(s, e, at));
     let over = p.least - q.greatest;
     let under = q.least - p.greatest;
     let limit = d as i64;
     if limit < over { true } else { limit < under }
 }
 
-// Whether all queries of the pair i, j miss: z first, then x, then y.
-pub fn are_distant(
-    w: Terms,
-    a0: &[i32],
-    a1: &[i32],
-    b0: &[i32],
-    b1: &[i32],
-    i: usize,
-    j: usize,
-    queue: &[u64],
-    sofar: BodyAnswer,
-) -> bool
-    requires { ⌜ OfPair w (now a0) (now a1) (now b0) (now b1) i j (now queue) sofar ⌝ }
-    ensures { λ r. ⌜ (r ≡ true → Distant w (now (a0 .entry)) (now (a1 .entry)) (now (b0 .entry)) (now (b1 .entry)) i j) ⌝ }
+// Whether all queries of a triangle of A, by its reach, with triangle j of B miss: z first, then x, then y.
+pub fn are_distant(w: Terms, r: Reach, s: &[i32], e: &[i32], j: usize) -> bool
+    requires { ⌜ WideReach r × HasTriangle (now s) (now e) j ⌝ }
+    ensures { λ b. ⌜ (b ≡ true → DistantFrom w r (now (s .entry)) (now (e .entry)) j) ⌝ }
 {
-    if apart_on(a0, a1, 9 * i + Z, b0, b1, 9 * j + Z, w.dz) {
+    if apart_on(r.z, s, e, 9 * j + Z, w.dz) {
         return true;
     }
-    if apart_on(a0, a1, 9 * i + X, b0, b1, 9 * j + X, w.dx) {
+    if apart_on(r.x, s, e, 9 * j + X, w.dx) {
         return true;
     }
-    apart_on(a0, a1, 9 * i + Y, b0, b1, 9 * j + Y, w.dy)
+    apart_on(r.y, s, e, 9 * j + Y, w.dy)
 }

@@ -3,11 +3,14 @@ ghost use mathlib.Core.Path.{_≡_};
 ghost use lib.ListN.{length};
 ghost use Rattle.rules.specs.declared.BodyAnswer.the-variants.{Clear};
 ghost use Rattle.rules.specs.Bodies.{isBody, pairQueries, queriesOf, bodyRefusal};
+ghost use Rattle.bodies.specs.Apart.{ReachIs};
 ghost use Rattle.bodies.specs.Asking.{body};
 ghost use Rattle.bodies.specs.Telling.{Answered, Tells};
 ghost use Rattle.bodies.specs.Walk.{positions, OfQuery, OfPair, OfRow, OfBodies, Heard, queryAlone, rowQueries};
 use answers::numbers;
+use apart::Reach;
 use apart::are_distant;
+use apart::reach_of;
 use asking::query_at;
 use hearing::counted;
 use hearing::heard;
@@ -84,9 +87,10 @@ fn hear_query(
     heard(sofar, i as u32, j as u32, (1 + k) as u32, numbers(answer))
 }
 
-// The fifteen queries of the pair i, j.
+// The fifteen queries of the pair i, j; what triangle i reaches is at hand.
 fn hear_pair(
     w: Terms,
+    reach: Reach,
     a0: &[i32],
     a1: &[i32],
     b0: &[i32],
@@ -96,10 +100,10 @@ fn hear_pair(
     queue: &mut [u64],
     first: BodyAnswer,
 ) -> BodyAnswer
-    requires { ⌜ OfPair w (now a0) (now a1) (now b0) (now b1) i j (now queue) first ⌝ }
+    requires { ⌜ OfPair w (now a0) (now a1) (now b0) (now b1) i j (now queue) first × ReachIs (now a0) (now a1) i reach ⌝ }
     ensures { λ r. ⌜ Heard 15 (pairQueries w (positions (now (a0 .entry)) (now (a1 .entry))) (positions (now (b0 .entry)) (now (b1 .entry))) i j) (now (queue .entry)) (now (queue .exit)) first r ⌝ }
 {
-    if are_distant(w, a0, a1, b0, b1, i, j, queue, first) {
+    if are_distant(w, reach, b0, b1, j) {
         return counted(15, first);
     }
     let mut sofar = first;
@@ -126,10 +130,11 @@ fn hear_row(
     requires { ⌜ OfRow w (now a0) (now a1) i n (now b0) (now b1) (now queue) first ⌝ }
     ensures { λ r. ⌜ Heard 3840 (rowQueries w (positions (now (a0 .entry)) (now (a1 .entry))) (positions (now (b0 .entry)) (now (b1 .entry))) i n) (now (queue .entry)) (now (queue .exit)) first r ⌝ }
 {
+    let reach = reach_of(a0, a1, i);
     let mut sofar = first;
     let mut j = 0;
     while j < n {
-        sofar = hear_pair(w, a0, a1, b0, b1, i, j, queue, sofar);
+        sofar = hear_pair(w, reach, a0, a1, b0, b1, i, j, queue, sofar);
         j += 1;
     }
     sofar

@@ -32,17 +32,35 @@ squareOf a b c = summed a (spanOf (pos 0) b) (spanOf (pos 0) c)
 abbrev pub cubeOf : Kernel → Span
 cubeOf K = joined (squareOf (K .a0) (K .b0) (K .c0)) (squareOf (K .a1) (K .b1) (K .c1))
 
--- it is small where the kernel is
-pub cube-within : {K : Kernel} → Small K → SmallSpan 6_291_456 (cubeOf K)
+-- differences of any two numbers of 32 bits: a kernel of these has a cube that fits
+pub record Wide (K : Kernel) : Type 0 where
+  pub a0 : Within 4_294_967_296 (K .a0)
+  pub b0 : Within 4_294_967_296 (K .b0)
+  pub c0 : Within 4_294_967_296 (K .c0)
+  pub a1 : Within 4_294_967_296 (K .a1)
+  pub b1 : Within 4_294_967_296 (K .b1)
+  pub c1 : Within 4_294_967_296 (K .c1)
+
+pub small-wide : {K : Kernel} → Small K → Wide K
+small-wide h =
+    record { a0 = more (h .a0); b0 = more (h .b0); c0 = more (h .c0); a1 = more (h .a1); b1 = more (h .b1); c1 = more (h .c1) }
+  where
+    more : {x : ℤ} → Within 2_097_152 x → Within 4_294_967_296 x
+    more h = within-more (lit≤ tt) h
+
+abbrev pub cubeMost : ℕ
+cubeMost = 12_884_901_888
+
+pub cube-within : {K : Kernel} → Wide K → SmallSpan cubeMost (cubeOf K)
 cube-within h =
     let s = square (h .a0) (h .b0) (h .c0) in
     let e = square (h .a1) (h .b1) (h .c1) in
-    record { least = min-pick (Within 6_291_456) _ _ (s .least) (e .least); greatest = max-pick (Within 6_291_456) _ _ (s .greatest) (e .greatest) }
+    record { least = min-pick (Within cubeMost) _ _ (s .least) (e .least); greatest = max-pick (Within cubeMost) _ _ (s .greatest) (e .greatest) }
   where
-    term : {x : ℤ} → Within 2_097_152 x → SmallSpan 2_097_152 (spanOf (pos 0) x)
+    term : {x : ℤ} → Within 4_294_967_296 x → SmallSpan 4_294_967_296 (spanOf (pos 0) x)
     term h = span-small (within-more (lit≤ tt) (within-pos 0)) h
 
-    square : {a b c : ℤ} → Within 2_097_152 a → Within 2_097_152 b → Within 2_097_152 c → SmallSpan 6_291_456 (squareOf a b c)
+    square : {a b c : ℤ} → Within 4_294_967_296 a → Within 4_294_967_296 b → Within 4_294_967_296 c → SmallSpan cubeMost (squareOf a b c)
     square f g h = record { least = within-add (within-add f (term g .least)) (term h .least); greatest = within-add (within-add f (term g .greatest)) (term h .greatest) }
 
 above : 0 < unit

@@ -2,9 +2,8 @@
 ghost use mathlib.Core.Path.{_≡_};
 ghost use lib.IntN.{pos};
 ghost use Rattle.whole.specs.Within.{Within};
-ghost use Rattle.kernel.specs.Ranges.{Small};
 ghost use Rattle.gap.specs.Corners.{spanOf};
-ghost use Rattle.gap.specs.Cube.{squareOf, cubeOf};
+ghost use Rattle.gap.specs.Cube.{squareOf, cubeOf, Wide};
 use super::span::Span;
 use super::span::join;
 use super::span::sum;
@@ -24,7 +23,7 @@ fn term(s: i64) -> Span
 
 // The span over u and v, at the start or at the end.
 fn over_square(a: i64, b: i64, c: i64) -> Span
-    requires { ⌜ Within 2097152 a × (Within 2097152 b × Within 2097152 c) ⌝ }
+    requires { ⌜ Within 4294967296 a × (Within 4294967296 b × Within 4294967296 c) ⌝ }
     ensures { λ r. ⌜ r ≡ squareOf a b c ⌝ }
 {
     let u = term(b);
@@ -33,7 +32,7 @@ fn over_square(a: i64, b: i64, c: i64) -> Span
 }
 
 pub fn over_cube(k: Kernel) -> Span
-    requires { ⌜ Small k ⌝ }
+    requires { ⌜ Wide k ⌝ }
     ensures { λ r. ⌜ r ≡ cubeOf k ⌝ }
 {
     let start = over_square(k.a0, k.b0, k.c0);

@@ -1,14 +1,25 @@
 -- `bodies::apart::triangle_at` meets its contract.
 use borrow.Author.Needs.{needs, sfits-of}
 use mir.Val.{SFits}
-use Rattle.whole.specs.Within.{fits, within-pos}
+use mathlib.Core.Path.{_≡_}
+use lib.Dec.{lit≤}
+use Rattle.whole.specs.Within.{Within, fits, within-pos, within-sub, within-more, within-sfits}
+use Rattle.kernel.specs.declared.Kernel.{Kernel}
+use Rattle.bodies.specs.Apart.{triangleAt}
 use Prim.Native.Nat.{_+_}
-use lib.IntN.{pos, _-ℤ_}
+use lib.IntN.{ℤ, pos, _-ℤ_}
 use lib.ListN.{getD}
 use mir.Syntax.{w32, w64}
 use Rattle.whole.specs.Read.{back₂}
 use Rattle.bodies.proofs.apart.triangle_at.Statement.{statement}
 use Rattle.bodies.proofs.apart.triangle_at.Tie as tie
+
+-- what two numbers of 32 bits are apart
+side : {x y : ℤ} → SFits w32 x → SFits w32 y → Within 4_294_967_296 (x -ℤ y)
+side x y = within-sub (within-sfits x) (within-sfits y)
+
+first : {x : ℤ} → SFits w32 x → Within 4_294_967_296 (x -ℤ pos 0)
+first x = within-more (lit≤ tt) (within-sub (within-sfits x) (within-pos 0))
 
 mul-minus : tie.Need-mul-minus
 mul-minus c = search needs
@@ -116,7 +127,8 @@ returns c =
     let a1 = back₂ w64 w32 _-ℤ_ x′ o (c .before .before .before .before .before .before .minus4 .ok) (c .before .before .before .before .before .before .minus4 .ensures) in
     let b1 = back₂ w64 w32 _-ℤ_ y′ x′ (c .before .before .before .minus5 .ok) (c .before .before .before .minus5 .ensures) in
     let c1 = back₂ w64 w32 _-ℤ_ z′ x′ (c .minus6 .ok) (c .minus6 .ensures) in
-    λ i. record { a0 = a0 i; b0 = b0 i; c0 = c0 i; a1 = a1 i; b1 = b1 i; c1 = c1 i }
+    let e : _≡_ {A = Kernel} _ (triangleAt (k .s .now) (k .e .now) (k .at)) = λ i. record { a0 = a0 i; b0 = b0 i; c0 = c0 i; a1 = a1 i; b1 = b1 i; c1 = c1 i } in
+    (e, rw e (record { a0 = first x; b0 = side y x; c0 = side z x; a1 = first x′; b1 = side y′ x′; c1 = side z′ x′ }))
 
 pub triangle-at-spec : {M : Type 1} → statement M
 triangle-at-spec =

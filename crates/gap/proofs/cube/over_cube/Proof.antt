@@ -13,7 +13,7 @@ use Rattle.gap.proofs.cube.over_cube.Statement.{statement}
 use Rattle.gap.proofs.cube.over_cube.Tie as tie
 
 -- what a call of `over_square` gives, of numbers that are read back from their bits
-told : {s : Span} {a b c : ℤ} → Within 2_097_152 a → Within 2_097_152 b → Within 2_097_152 c
+told : {s : Span} {a b c : ℤ} → Within 4_294_967_296 a → Within 4_294_967_296 b → Within 4_294_967_296 c
     → s ≡ squareOf (toZ w64 (ofZ w64 a)) (toZ w64 (ofZ w64 b)) (toZ w64 (ofZ w64 c)) → s ≡ squareOf a b c
 told f g h e = rw (toZ-ofZ (fits tt f), toZ-ofZ (fits tt g), toZ-ofZ (fits tt h)) at e
 

@@ -9,10 +9,10 @@ use Rattle.gap.specs.Steps.{SmallSpan, termMost, span-small}
 use Rattle.gap.proofs.cube.over_square.Statement.{statement}
 use Rattle.gap.proofs.cube.over_square.Tie as tie
 
-wide : {x : ℤ} → Within 2_097_152 x → Within termMost x
+wide : {x : ℤ} → Within 4_294_967_296 x → Within termMost x
 wide h = within-more (lit≤ tt) h
 
-small : {x : ℤ} → Within 2_097_152 x → SmallSpan termMost (spanOf (pos 0) x)
+small : {x : ℤ} → Within 4_294_967_296 x → SmallSpan termMost (spanOf (pos 0) x)
 small h = span-small (within-more (lit≤ tt) (within-pos 0)) (wide h)
 
 term-requires : tie.Need-term-requires

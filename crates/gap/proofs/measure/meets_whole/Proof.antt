@@ -4,12 +4,12 @@ use mathlib.Core.Path.{_∙_}
 use native.Mathlib.Omega.{arith}
 use Rattle.whole.specs.Within.{within-more, within-pos}
 use Rattle.gap.specs.Steps.{read-part}
-use Rattle.gap.specs.Cube.{meets-whole}
+use Rattle.gap.specs.Cube.{meets-whole, small-wide}
 use Rattle.gap.proofs.measure.meets_whole.Statement.{statement}
 use Rattle.gap.proofs.measure.meets_whole.Tie as tie
 
 over-cube-requires : tie.Need-over-cube-requires
-over-cube-requires c κs = search needs
+over-cube-requires c κs = small-wide (c .pre .0)
 
 cast-comes-within : tie.Need-cast-comes-within
 cast-comes-within c = search needs
