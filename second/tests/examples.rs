@@ -50,9 +50,14 @@ fn edition_2_is_said_before_the_records() {
     assert_eq!(write("edition 3\n"), Err(1));
 }
 
+/// What sweep prints of an example.
+fn swept(name: &str) -> String {
+    let path = Path::new(env!("CARGO_MANIFEST_DIR")).join("../examples").join(name);
+    second::text::sweep(&fs::read(path).expect("its query file"), 4096)
+}
+
 #[test]
 fn swell_is_answered_by_each_axis() {
-    let path = Path::new(env!("CARGO_MANIFEST_DIR")).join("../examples/swell.query");
     let expected = "\
 1 MET 0 0 0 0 1
 2 CLEAR 0 0 0 0 1
@@ -61,7 +66,24 @@ fn swell_is_answered_by_each_axis() {
 5 MET 524288 0 0 100 3
 TOTAL 5 MET 3 CLEAR 2 SPENT 0 ROOM 0 FLOOR 0 REFUSED 0
 ";
-    assert_eq!(second::text::sweep(&fs::read(path).expect("its query file"), 4096), expected);
+    assert_eq!(swept("swell.query"), expected);
+}
+
+#[test]
+fn height_is_answered_the_same_on_every_axis() {
+    let expected = "\
+1 MET 262144 0 0 500 5
+2 MET 262144 0 0 500 5
+3 MET 262144 0 0 500 5
+4 CLEAR 0 0 0 0 1
+5 MET 0 0 0 800 1
+6 CLEAR 0 0 0 0 1
+7 MET 0 0 0 100 1
+8 CLEAR 0 0 0 0 1
+9 CLEAR 0 0 0 0 10
+TOTAL 9 MET 5 CLEAR 4 SPENT 0 ROOM 0 FLOOR 0 REFUSED 0
+";
+    assert_eq!(swept("height.query"), expected);
 }
 
 const METRE: i32 = 8000;
