@@ -132,6 +132,13 @@ module _ {edition : ℕ} {s : List ℕ} {at : ℕ} {queue queue′ out out′ : 
         zero = rw (left, is, says) (clean-after (search r (length queue)) clean queue clear);
       }
 
+-- a walk of one record is that record's
+pub alone : {edition at : ℕ} {s queue queue′ out out′ : List ℕ} → out′ ≡ put out 0 (tellsFrom edition s (length queue) 1 at) → queue′ ≡ queueFrom edition s 1 at queue
+    → Answered edition s at queue queue′ false out 0 out′ false
+unfolding tellsFrom queueFrom
+alone {edition = edition} {at = at} {s = s} {queue = queue} {out = out} told left =
+    record { told = told ∙ ap (λ (l : List ℕ). put out 0 l) (append-nil (tells (recordAt edition s at) (length queue))); left = left; zero = λ e. let z : _≡_ {A = ℕ} 0 1 = cc in absurd (omega arith) }
+
 -- the record that stands n records behind the first is record n of the file
 pub at-place : {edition place at : ℕ} {queue queue′ out out′ : List ℕ} {to : ℕ} {clean clean′ : Bool} (s : List ℕ) (n : ℕ) → edition ≡ editionOf s → place ≡ trailerPlace s - backPointer s
     → at ≡ place + recordSize edition * n → Answered edition s at queue queue′ clean out to out′ clean′ → Answered (editionOf s) s (placeOf s n) queue queue′ clean out to out′ clean′

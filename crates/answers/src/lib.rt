@@ -203,7 +203,7 @@ pub fn answer_one(file: &[u8], n: usize, queue: &mut [u64], out: &mut [u32]) -> 
                 return 14;
             }
             let at = place_of(edition, first, n);
-            answer_at(file, edition, at, queue, false, out, 0);
+            answer_records(file, edition, at, 1, queue, out);
             0
         }
     }

@@ -9,6 +9,10 @@ pub size-zero : (wide : Bool) → sizeBy wide * 0 ≡ 0
 size-zero true = refl
 size-zero false = refl
 
+pub size-one : (wide : Bool) → sizeBy wide * 1 ≡ sizeBy wide
+size-one true = refl
+size-one false = refl
+
 pub size-suc : (wide : Bool) (n : ℕ) → sizeBy wide * suc n ≡ sizeBy wide + sizeBy wide * n
 size-suc true n = omega arith
 size-suc false n = omega arith

@@ -2,11 +2,12 @@
 use mathlib.Core.Path.{_≡_, sym, _∙_}
 use Prim.Native.Nat.{ℕ}
 use native.Mathlib.Omega.{arith}
-use Rattle.rules.specs.QueryFile.{fileForm, openRefusal}
+use Rattle.rules.specs.QueryFile.{isWide, fileForm, openRefusal}
+use Rattle.queries.specs.Sizes.{size-one}
 use Rattle.queries.specs.Opening.{Holds, record-fits, opened-records, opened-refused}
 use Rattle.answers.specs.Doing.{refuses, answers}
 use Rattle.answers.proofs.Refusing.{one-refused, one-index, one-short, one-good}
-use Rattle.answers.proofs.Walking.{at-place}
+use Rattle.answers.proofs.Walking.{alone, at-place}
 use borrow.Author.Needs.{needs}
 use Rattle.answers.proofs.answer_one.Statement.{statement}
 use Rattle.answers.proofs.answer_one.Tie as tie
@@ -47,11 +48,11 @@ place-of-requires c κs =
     let k = c .before .before .before in
     omega (arith, record-fits (holds k) (k .before .before .before .before .before .before .args .n) (c .before .if1 .left))
 
-answer-at-requires : tie.Need-answer-at-requires
-answer-at-requires c κs =
+answer-records-requires : tie.Need-answer-records-requires
+answer-records-requires c κs =
     let p = c .before .before in
     let k = p .before .before .before .before in
-    record { there = omega (arith, p .place-of .ensures, record-fits (holds k) (k .before .before .before .before .before .before .args .n) (p .before .before .if1 .left)); room = omega arith; zero = λ e. let z : _≡_ {A = ℕ} 0 1 = cc in absurd (omega arith) }
+    (omega (arith, size-one (isWide (k .o2 .given .0 .0)), p .place-of .ensures, record-fits (holds k) (k .before .before .before .before .before .before .args .n) (p .before .before .if1 .left)), omega arith)
 
 returns-3 : tie.Need-returns-3
 returns-3 c =
@@ -72,7 +73,7 @@ returns-4 c =
     let k = p .before .before .before .before in
     let a = k .before .before .before .before .before .before .args in
     let h = holds k in
-    let d = at-place (a .file .now) (a .n) (h .names) (h .starts) (p .place-of .ensures) (c .before .before .before .before .answer-at .ensures) in
+    let d = at-place (a .file .now) (a .n) (h .names) (h .starts) (p .place-of .ensures) (alone (c .before .before .before .before .answer-records .ensures .0) (c .before .before .before .before .answer-records .ensures .1)) in
     answers (one-good (a .file .now) (a .out .now) (h .none) (a .n) (omega (arith, h .counts)) (omega arith)) (d .told) (d .left)
 
 pub answer-one-spec : {M : Type 1} → statement M
@@ -85,7 +86,7 @@ answer-one-spec =
     returns
     returns-2
     place-of-requires
-    answer-at-requires
+    answer-records-requires
     returns-3
     same-length
     same-length-2
