@@ -2,12 +2,16 @@
 
 use second::bench::answering::{answers, ByHand};
 use second::bench::berth::Berth;
-use second::bench::bodies::{corpus::Class, walk};
+use second::bench::bodies::corpus::Class;
+use second::bench::bodies::walk::{self, Way};
 use second::bench::corpus::{self, Corpus, SEED};
 use second::bench::fast::Fast;
 use second::bench::float::{queries, Found};
 use second::bench::measure::{by_turns, median, Contestant};
+use second::bench::motion::Asked;
 use second::bench::plain::Plain;
+use second::bench::reading::{records, ONE};
+use second::bench::same::Same;
 use second::bench::table;
 use second::beside::{bodies, Expected};
 use second::bodies::{answer, told, Bodies};
@@ -31,10 +35,12 @@ fn is_small(flavour: &&str) -> bool {
     !["many", "most"].iter().any(|large| flavour.starts_with(large))
 }
 
-/// Both searches by hand are told what the second program is, and leave what it would.
+/// All searches by hand are told what the second program is, and leave what it would.
 fn assert_as_expected(file: &[u8], words: usize, of: &str) {
     let (code, told, queue) = by_hand::<Fast>(file, words);
-    assert!((code, told.clone(), queue.clone()) == by_hand::<Plain>(file, words), "{of}");
+    let fast = (code, told.clone(), queue.clone());
+    assert!(fast == by_hand::<Plain>(file, words), "{of}");
+    assert!(fast == by_hand::<Same>(file, words), "{of}");
     match Expected::of(file, words).records {
         Err(number) => assert_eq!(code, number),
         Ok(records) => assert_eq!((code, told), (0, records.concat()), "{of}"),
@@ -117,6 +123,16 @@ fn berth_brings_clear_met_and_spent_and_mostly_level_0() {
 }
 
 #[test]
+fn the_same_ideas_leave_a_queue_of_zeros() {
+    let file = file_of(One, &sample(1, 4096));
+    for (query, words) in records::<ONE>(&file, 0, 4096).zip([4096, 65, 16].into_iter().cycle()) {
+        let mut queue = vec![0; words];
+        Same::search(&Asked::of(&query), &mut queue);
+        assert!(queue == vec![0; words]);
+    }
+}
+
+#[test]
 fn floats_find_what_the_exact_search_finds() {
     let file = file_of(One, &sample(1, 4096));
     let (_, told, _) = by_hand::<Fast>(&file, 4096);
@@ -135,9 +151,9 @@ fn floats_find_what_the_exact_search_finds() {
 }
 
 /// Code, told and queue of the walk written by hand.
-fn walked<const FAST: bool>(bodies: &Bodies, words: usize) -> (u32, [u32; 8], Vec<u64>) {
+fn walked<W: Way>(bodies: &Bodies, words: usize) -> (u32, [u32; 8], Vec<u64>) {
     let (mut told, mut queue) = ([7; 8], vec![7; words]);
-    let code = walk::bodies::<FAST>(bodies, &mut queue, &mut told);
+    let code = walk::bodies::<W>(bodies, &mut queue, &mut told);
     (code, told, queue)
 }
 
@@ -153,10 +169,11 @@ fn walks_by_hand_answer_as_the_second_program() {
                 Err(refusal) => (refusal.number(), [7; 8], vec![7; words]),
                 Ok(told) => (0, told, vec![0; words]),
             };
-            assert!(walked::<false>(&bodies, words) == must, "{flavour} {seed} {words}");
-            assert!(walked::<true>(&bodies, words) == must, "{flavour} {seed} {words}");
+            assert!(walked::<Plain>(&bodies, words) == must, "{flavour} {seed} {words}");
+            assert!(walked::<Same>(&bodies, words) == must, "{flavour} {seed} {words}");
+            assert!(walked::<Fast>(&bodies, words) == must, "{flavour} {seed} {words}");
             let (mut queue, mut short) = (vec![7; words], [7; 7]);
-            let code = walk::bodies::<true>(&bodies, &mut queue, &mut short);
+            let code = walk::bodies::<Fast>(&bodies, &mut queue, &mut short);
             assert_eq!(code, if must.0 == 0 { 14 } else { must.0 });
             assert!(short == [7; 7] && queue == vec![7; words]);
         }
@@ -168,7 +185,7 @@ fn bodies_of_the_bench_are_far_apart_near_and_touching() {
     let queries = 256 * 256 * 15;
     assert_eq!(Class::all(1)[0].bodies(16).b.count, 16);
     let [far, near, touching] = Class::all(1).map(|class| {
-        let (code, told, _) = walked::<true>(&class.bodies(256), 4096);
+        let (code, told, _) = walked::<Fast>(&class.bodies(256), 4096);
         assert_eq!((code, told[7]), (0, 0), "{}", class.name);
         (told[0], told[6])
     });
@@ -194,8 +211,9 @@ fn deeper_queries_by_their_boxes() {
 }
 
 #[test]
-fn growth_of_two_times() {
-    assert_eq!(table::growth(60.0, 30.0, 2.0, 10.0), [30.0, 15.0, 6.0, 3.0, 2.0]);
+fn growth_of_three_times() {
+    let row = table::growth([60.0, 30.0, 20.0], 2.0, 10.0);
+    assert_eq!(row, [30.0, 15.0, 10.0, 6.0, 3.0, 2.0, 2.0]);
 }
 
 #[test]

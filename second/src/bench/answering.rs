@@ -1,5 +1,7 @@
 //! The calls of the library around a search by hand: the file opened, its records refused or searched, and told.
 
+use super::cube;
+use super::motion::Asked;
 use super::reading::{records, Query, ONE, TWO};
 use crate::edition::Edition;
 use crate::file::{open, Opened};
@@ -16,8 +18,25 @@ pub type Answer = [u32; 6];
 
 /// A search by hand.
 pub trait ByHand {
-    /// Of a sound query; it may find and leave anything in the queue.
-    fn search(query: &Query, queue: &mut [u64]) -> Answer;
+    /// Whether level 0 is looked at in whole units before anything is prepared.
+    const CUBE_FIRST: bool;
+
+    /// Of a sound query, where that is so only of one whose cube survives; it may find and leave anything in the queue.
+    fn search(asked: &Asked, queue: &mut [u64]) -> Answer;
+}
+
+#[inline(always)]
+fn answer<S: ByHand>(query: &Query, queue: &mut [u64]) -> Answer {
+    if S::CUBE_FIRST && cube::misses(query.is_vertex_face(), &query.separations, query) {
+        return [CLEAR, 0, 0, 0, 0, 1];
+    }
+    prepared::<S>(query, queue)
+}
+
+/// By itself, so that level 0 has no share in what it needs.
+#[inline(never)]
+fn prepared<S: ByHand>(query: &Query, queue: &mut [u64]) -> Answer {
+    S::search(&Asked::of(query), queue)
 }
 
 /// As `taperhive_answers`.
@@ -51,7 +70,7 @@ fn all<S: ByHand, const SIZE: usize>(
         let mut numbers = [query.id, 0, 0, 0, 0, 0, 0, refusal];
         if refusal == 0 {
             any_answered = true;
-            numbers[1..7].copy_from_slice(&S::search(&query, queue));
+            numbers[1..7].copy_from_slice(&answer::<S>(&query, queue));
         }
         told.copy_from_slice(&numbers);
     }

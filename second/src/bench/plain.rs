@@ -2,16 +2,13 @@
 
 use super::answering::{Answer, ByHand, CLEAR, FLOOR, MET, ROOM, SPENT};
 use super::motion::{between, parameter, Asked, DEEPEST, Q};
-use super::reading::Query;
-
-/// Where the t, u and v index stand in a stored box.
-const SHIFTS: [u32; 3] = [40, 20, 0];
+use super::stored::{is_inside, INDEX, SHIFTS};
 
 /// A box's low and high t, u, v, over Q.
 type Ends = [[i64; 2]; 3];
 
-pub struct Search {
-    asked: Asked,
+struct Search<'a> {
+    asked: &'a Asked,
     count: u32,
     depths: [u32; 3],
     /// t, u, v, excess.
@@ -21,18 +18,15 @@ pub struct Search {
 pub struct Plain;
 
 impl ByHand for Plain {
-    fn search(query: &Query, queue: &mut [u64]) -> Answer {
-        Search::new(Asked::of(query)).run(queue)
+    const CUBE_FIRST: bool = false;
+
+    fn search(asked: &Asked, queue: &mut [u64]) -> Answer {
+        Search { asked, count: 0, depths: [0; 3], recorded: [0; 4] }.run(queue)
     }
 }
 
-impl Search {
-    #[inline(always)]
-    pub fn new(asked: Asked) -> Search {
-        Search { asked, count: 0, depths: [0; 3], recorded: [0; 4] }
-    }
-
-    pub fn run(&mut self, queue: &mut [u64]) -> Answer {
+impl Search<'_> {
+    fn run(&mut self, queue: &mut [u64]) -> Answer {
         let (first, second) = queue.split_at_mut(queue.len() / 2);
         let half = first.len();
         let (mut present, mut next) = (first, &mut second[..half]);
@@ -83,7 +77,7 @@ impl Search {
         let mut ends = [[0; 2]; 3];
         for (n, ends) in ends.iter_mut().enumerate() {
             let side = Q >> self.depths[n];
-            let low = (word >> SHIFTS[n] & 0xF_FFFF) as i64 * side;
+            let low = (word >> SHIFTS[n] & INDEX) as i64 * side;
             *ends = [low, low + side];
         }
         ends
@@ -141,7 +135,7 @@ impl Search {
     /// Merges the low and the high halves; nothing where there is no room.
     fn split(&self, parameter: usize, level: &[u64], next: &mut [u64]) -> Option<usize> {
         let shift = SHIFTS[parameter];
-        let index = 0xF_FFFF << shift;
+        let index = INDEX << shift;
         let low = |word: u64| (word & !index) | (word & index) << 1;
         let (mut lows, mut highs, mut made) = (0, 0, 0);
         while highs < level.len() {
@@ -153,7 +147,7 @@ impl Search {
                 highs += 1;
                 high
             };
-            if self.asked.is_vertex_face && self.is_outside(word) {
+            if self.asked.is_vertex_face && !is_inside(word, &self.depths) {
                 continue;
             }
             if made == next.len() {
@@ -163,10 +157,5 @@ impl Search {
             made += 1;
         }
         Some(made)
-    }
-
-    fn is_outside(&self, word: u64) -> bool {
-        let [_, u, v] = self.ends(word);
-        u[0] + v[0] > Q
     }
 }

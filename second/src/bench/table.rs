@@ -13,8 +13,8 @@ pub fn print(heads: &[Head], rows: &[(String, Vec<f64>)]) {
     }
 }
 
-/// How two times go up: both of a whole, both of a part, and their ratio.
-pub fn growth(proved: f64, fastest: f64, wholes: f64, parts: f64) -> Vec<f64> {
-    let of = |number: f64| [proved / number, fastest / number];
-    [of(wholes), of(parts)].concat().into_iter().chain([proved / fastest]).collect()
+/// How the times of the proved, of the same ideas by hand and of the fastest go up: each of a whole, each of a part, and the ratio of the first two.
+pub fn growth(times: [f64; 3], wholes: f64, parts: f64) -> Vec<f64> {
+    let of = |number: f64| times.map(|time| time / number);
+    [&of(wholes)[..], &of(parts), &[times[0] / times[1]]].concat()
 }

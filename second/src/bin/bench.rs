@@ -7,6 +7,7 @@ use second::bench::fast::Fast;
 use second::bench::float::{queries, Query};
 use second::bench::measure::{by_turns, Contestant, Measured, ROUNDS};
 use second::bench::plain::Plain;
+use second::bench::same::Same;
 use second::bench::table::{self, Head};
 use second::beside::{linked, Library};
 use std::borrow::Borrow;
@@ -15,11 +16,13 @@ use std::hint::black_box;
 use std::process::ExitCode;
 
 const HEADS: [Head; 4] = [("ns a query", 1), ("ns a box", 1), ("boxes a query", 1), ("ratio", 2)];
-const GROWTH: [Head; 6] = [
+const GROWTH: [Head; 8] = [
     ("proved a query", 1),
-    ("by hand a query", 1),
+    ("same a query", 1),
+    ("fastest a query", 1),
     ("proved a box", 1),
-    ("by hand a box", 1),
+    ("same a box", 1),
+    ("fastest a box", 1),
     ("ratio", 2),
     ("boxes a query", 1),
 ];
@@ -28,7 +31,7 @@ fn main() -> ExitCode {
     let corpus = Corpus::new(SEED);
     let library = linked::library();
     let (gangway, hull) = corpus.triangles;
-    println!("ratio: the time by that of the fastest by hand; {ROUNDS} rounds, queue of {QUEUE_WORDS} words, seed {SEED}");
+    println!("ratio: the time by that of the same ideas by hand; {ROUNDS} rounds, queue of {QUEUE_WORDS} words, seed {SEED}");
     println!("berth: {gangway} triangles of gangway, {hull} of hull");
     for class in &corpus.classes {
         if !alike(&library, class) {
@@ -46,16 +49,17 @@ fn main() -> ExitCode {
     }
 }
 
-/// The proved search and both written by hand give the same numbers.
+/// The proved search and all exact ones written by hand give the same numbers.
 fn alike(library: &Library, class: &Class) -> bool {
     let answers_by = |by: &dyn Fn(&mut [u64], &mut [u32]) -> u32| {
         let (mut queue, mut told) = (vec![1; QUEUE_WORDS], vec![1; 8 * class.queries]);
         (by(&mut queue, &mut told), queue, told)
     };
     let proved = answers_by(&|queue, told| library.answers(&class.file, queue, told));
+    let same = answers_by(&|queue, told| answers::<Same>(&class.file, queue, told));
     let fast = answers_by(&|queue, told| answers::<Fast>(&class.file, queue, told));
     let plain = answers_by(&|queue, told| answers::<Plain>(&class.file, queue, told));
-    proved.0 == 0 && proved == fast && proved == plain
+    proved.0 == 0 && [same, fast, plain].iter().all(|by_hand| *by_hand == proved)
 }
 
 fn show(class: &Class, library: &Library) {
@@ -63,17 +67,18 @@ fn show(class: &Class, library: &Library) {
     let mut contestants = [
         proved(class, library),
         one_by_one(class, library),
+        by_hand::<Same>("by hand, the same ideas", class),
         by_hand::<Fast>("by hand, fastest", class),
         by_hand::<Plain>("by hand, eight corners", class),
         floats("floats of 004, from the file", || queries(&class.file)),
         floats("floats of 004, points ready", || ready.iter()),
     ];
     let measured = by_turns(&mut contestants, ROUNDS);
-    let fastest = measured[2].nanoseconds;
+    let same_ideas = measured[2].nanoseconds;
     let row = |(one, Measured { nanoseconds, boxes }): (&Contestant, Measured)| {
         let (queries, boxes) = (class.queries as f64, boxes as f64);
         let (a_query, a_box) = (nanoseconds / queries, nanoseconds / boxes);
-        (one.name.to_string(), vec![a_query, a_box, boxes / queries, nanoseconds / fastest])
+        (one.name.to_string(), vec![a_query, a_box, boxes / queries, nanoseconds / same_ideas])
     };
     println!("\n{}: {} queries; {}", class.name, class.queries, words(class));
     table::print(&HEADS, &contestants.iter().zip(measured).map(row).collect::<Vec<_>>());
@@ -82,14 +87,14 @@ fn show(class: &Class, library: &Library) {
 /// How the time goes up with the boxes of a query.
 fn grow(classes: &[Class], library: &Library) {
     let rows = classes.iter().map(|class| {
-        let mut two = [proved(class, library), by_hand::<Fast>("by hand", class)];
-        let [proved, fastest] = by_turns(&mut two, ROUNDS);
-        let (queries, boxes) = (class.queries as f64, fastest.boxes as f64);
-        let mut row = table::growth(proved.nanoseconds, fastest.nanoseconds, queries, boxes);
+        let [same, fast] = [by_hand::<Same>("same", class), by_hand::<Fast>("fastest", class)];
+        let measured = by_turns(&mut [proved(class, library), same, fast], ROUNDS);
+        let (queries, boxes) = (class.queries as f64, measured[0].boxes as f64);
+        let mut row = table::growth(measured.map(|one| one.nanoseconds), queries, boxes);
         row.push(boxes / queries);
         (format!("{}, {} queries", class.name, class.queries), row)
     });
-    println!("\ndeeper by their boxes, nanoseconds of the proved and of the fastest by hand");
+    println!("\ndeeper by their boxes, nanoseconds of the proved, and by hand of the same ideas and of the fastest");
     table::print(&GROWTH, &rows.collect::<Vec<_>>());
 }
 

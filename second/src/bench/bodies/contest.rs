@@ -2,7 +2,10 @@
 
 use super::corpus::{Class, COUNTS};
 use super::walk;
+use crate::bench::fast::Fast;
 use crate::bench::measure::{by_turns, Contestant, Measured, ROUNDS};
+use crate::bench::plain::Plain;
+use crate::bench::same::Same;
 use crate::bench::table::{self, Head};
 use crate::beside::Library;
 use crate::bodies::{Bodies, MOST_TRIANGLES, QUERIES};
@@ -10,11 +13,13 @@ use std::hint::black_box;
 
 const WORDS: [&str; 6] = ["REFUSED", "MET", "CLEAR", "SPENT", "ROOM", "FLOOR"];
 const HEADS: [Head; 4] = [("ms a walk", 3), ("ns a query", 2), ("boxes a query", 3), ("ratio", 2)];
-const GROWTH: [Head; 5] = [
+const GROWTH: [Head; 7] = [
     ("proved a walk", 4),
-    ("by hand a walk", 4),
+    ("same a walk", 4),
+    ("fastest a walk", 4),
     ("proved a pair", 1),
-    ("by hand a pair", 1),
+    ("same a pair", 1),
+    ("fastest a pair", 1),
     ("ratio", 2),
 ];
 
@@ -42,14 +47,15 @@ pub fn run(library: &Library, seed: u64, words: usize) -> bool {
 }
 
 /// Those measured.
-fn walks(library: &Library) -> [(&'static str, Walked<'_>); 3] {
+fn walks(library: &Library) -> [(&'static str, Walked<'_>); 4] {
     [
         (
             "proved, taperhive_bodies",
             Box::new(|bodies, queue, told| library.bodies(bodies, queue, told)),
         ),
-        ("by hand, fastest", Box::new(walk::bodies::<true>)),
-        ("by hand, eight corners", Box::new(walk::bodies::<false>)),
+        ("by hand, the same ideas", Box::new(walk::bodies::<Same>)),
+        ("by hand, fastest", Box::new(walk::bodies::<Fast>)),
+        ("by hand, eight corners", Box::new(walk::bodies::<Plain>)),
     ]
 }
 
@@ -82,10 +88,10 @@ fn show(library: &Library, class: &Class, words: usize) {
     let mut contestants =
         walks(library).map(|walked| contestant(walked, class, MOST_TRIANGLES, words));
     let measured = by_turns(&mut contestants, ROUNDS);
-    let fastest = measured[1].nanoseconds;
+    let same_ideas = measured[1].nanoseconds;
     let row = |(one, Measured { nanoseconds, boxes }): (&Contestant, Measured)| {
         let (walk, a_query) = (nanoseconds / 1e6, nanoseconds / queries);
-        let numbers = vec![walk, a_query, boxes as f64 / queries, nanoseconds / fastest];
+        let numbers = vec![walk, a_query, boxes as f64 / queries, nanoseconds / same_ideas];
         (one.name.to_string(), numbers)
     };
     println!("\n{}: {}", class.name, answer(class, words));
@@ -94,17 +100,18 @@ fn show(library: &Library, class: &Class, words: usize) {
 
 /// How the time goes up with the triangles.
 fn grow(library: &Library, class: &Class, count: usize, words: usize) -> (String, Vec<f64>) {
-    let [proved, fastest, _] = walks(library);
-    let mut two = [proved, fastest].map(|walked| contestant(walked, class, count, words));
-    let [proved, fastest] = by_turns(&mut two, ROUNDS).map(|measured| measured.nanoseconds);
-    let row = table::growth(proved, fastest, 1e6, (count * count) as f64);
+    let [proved, same_ideas, fastest, _] = walks(library);
+    let mut three =
+        [proved, same_ideas, fastest].map(|walked| contestant(walked, class, count, words));
+    let times = by_turns(&mut three, ROUNDS).map(|measured| measured.nanoseconds);
+    let row = table::growth(times, 1e6, (count * count) as f64);
     (format!("{}, {count} by {count}", class.name), row)
 }
 
 /// What a walk by hand is answered.
 fn answer(class: &Class, words: usize) -> String {
     let (mut queue, mut told) = (vec![0; words], [0; 8]);
-    walk::bodies::<true>(&class.bodies(MOST_TRIANGLES), &mut queue, &mut told);
+    walk::bodies::<Fast>(&class.bodies(MOST_TRIANGLES), &mut queue, &mut told);
     let [word, t, a, b, query, excess, ..] = told;
     let word = WORDS[word as usize];
     format!("{word}, t {t}, triangles {a} and {b}, query {query}, excess {excess}")

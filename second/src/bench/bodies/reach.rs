@@ -4,12 +4,34 @@ use super::walk::triangle;
 use crate::bodies::{Body, Triangle, MOST_TRIANGLES};
 
 /// What a triangle reaches on an axis: its corners and the fourth of its parallelogram, at the start and at the end.
+#[inline(always)]
 fn reach(triangle: &Triangle, axis: usize) -> [i32; 2] {
     let [start, end] = triangle.each_ref().map(|[p, q, r]| {
         let (p, q, r) = (p[axis], q[axis] - p[axis], r[axis] - p[axis]);
         [p + q.min(0) + r.min(0), p + q.max(0) + r.max(0)]
     });
     [start[0].min(end[0]), start[1].max(end[1])]
+}
+
+/// What lies within the separation of a triangle, from and to on x, y and z.
+pub struct Reach([[i32; 2]; 3]);
+
+impl Reach {
+    pub fn around(triangle: &Triangle, separations: &[u32; 3]) -> Reach {
+        Reach([0, 1, 2].map(|axis| {
+            let ([least, greatest], d) = (reach(triangle, axis), separations[axis] as i32);
+            [least - d, greatest + d]
+        }))
+    }
+
+    /// Whether a triangle of the other body is apart: z first, then x, then y.
+    #[inline(always)]
+    pub fn misses(&self, other: &Triangle) -> bool {
+        [2, 0, 1].into_iter().any(|axis| {
+            let ([from, to], [least, greatest]) = (self.0[axis], reach(other, axis));
+            (least > to) | (greatest < from)
+        })
+    }
 }
 
 /// The reaches of a body, axis by axis, so that neighbours are compared at once.
@@ -33,14 +55,12 @@ impl Reaches {
     }
 
     /// Which triangles are not apart from one of the other body: z first, and x and y only where that leaves some.
-    pub fn near(&self, other: &Triangle, separations: &[u32; 3]) -> [bool; MOST_TRIANGLES] {
+    pub fn near(&self, around: &Reach) -> [bool; MOST_TRIANGLES] {
         let mut all = [false; MOST_TRIANGLES];
         let near = &mut all[..self.count];
         near.fill(true);
         for axis in [2, 0, 1] {
-            let [least, greatest] = reach(other, axis);
-            let d = separations[axis] as i32;
-            let (from, to) = (least - d, greatest + d);
+            let [from, to] = around.0[axis];
             let reaches = self.least[axis].iter().zip(&self.greatest[axis]);
             for (near, (least, greatest)) in near.iter_mut().zip(reaches) {
                 *near &= (*least <= to) & (*greatest >= from);

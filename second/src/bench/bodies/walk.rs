@@ -1,10 +1,12 @@
 //! Exact walks written by hand: same answers and refusals as `taperhive_bodies`. Their yardstick is time, not proof.
 
-use super::reach::Reaches;
-use crate::bench::answering::CLEAR;
-use crate::bench::fast::{self, cube};
+use super::reach::{Reach, Reaches};
+use crate::bench::answering::{ByHand, CLEAR};
+use crate::bench::cube;
+use crate::bench::fast::Fast;
 use crate::bench::motion::{Asked, Points, Terms};
-use crate::bench::plain;
+use crate::bench::plain::Plain;
+use crate::bench::same::Same;
 use crate::bodies::{Bodies, Body, Triangle, MOST_TRIANGLES, NUMBERS, QUERIES};
 use crate::record::Point;
 use crate::refusals::{check_words, LEAST_TOLERANCE, MOST_BUDGET, MOST_COORDINATE};
@@ -13,8 +15,62 @@ use crate::refusals::{MOST_SEPARATION, MOST_TOLERANCE};
 const BODY: u32 = 21;
 const SPACE: u32 = 14;
 
-/// As `taperhive_bodies`. FAST passes pairs by that are apart and has the fast search; else every query has the plain one.
-pub fn bodies<const FAST: bool>(bodies: &Bodies, queue: &mut [u64], told: &mut [u32]) -> u32 {
+/// Which pairs of triangles a walk asks; their queries have the same hand's search.
+pub trait Way: ByHand {
+    fn pairs(walk: &mut Walk, a: &Body, b: &Body);
+}
+
+/// Every pair.
+impl Way for Plain {
+    fn pairs(walk: &mut Walk, a: &Body, b: &Body) {
+        for m in 0..a.count {
+            let of_a = triangle(a, m);
+            for n in 0..b.count {
+                walk.pair::<Plain>([m as u32, n as u32], &of_a, &triangle(b, n));
+            }
+        }
+    }
+}
+
+/// The queries of a pair that is apart are counted, and not asked; what B reaches is worked out on the way.
+impl Way for Same {
+    fn pairs(walk: &mut Walk, a: &Body, b: &Body) {
+        for m in 0..a.count {
+            let of_a = triangle(a, m);
+            let around = Reach::around(&of_a, &walk.terms.separations);
+            let mut apart = 0;
+            for n in 0..b.count {
+                if around.misses(&triangle(b, n)) {
+                    apart += u64::from(QUERIES);
+                } else {
+                    walk.pair::<Same>([m as u32, n as u32], &of_a, &triangle(b, n));
+                }
+            }
+            walk.sum += apart;
+        }
+    }
+}
+
+/// The same with what B reaches kept, so that a whole row is compared at once.
+impl Way for Fast {
+    fn pairs(walk: &mut Walk, a: &Body, b: &Body) {
+        let reaches = Reaches::of(b);
+        for m in 0..a.count {
+            let of_a = triangle(a, m);
+            let near = reaches.near(&Reach::around(&of_a, &walk.terms.separations));
+            let pairs = near.iter().filter(|near| **near).count();
+            walk.sum += u64::from(QUERIES) * (b.count - pairs) as u64;
+            if pairs > 0 {
+                for n in (0..b.count).filter(|n| near[*n]) {
+                    walk.pair::<Fast>([m as u32, n as u32], &of_a, &triangle(b, n));
+                }
+            }
+        }
+    }
+}
+
+/// As `taperhive_bodies`.
+pub fn bodies<W: Way>(bodies: &Bodies, queue: &mut [u64], told: &mut [u32]) -> u32 {
     let number = refusal(bodies, queue.len());
     if number != 0 {
         return number;
@@ -23,11 +79,7 @@ pub fn bodies<const FAST: bool>(bodies: &Bodies, queue: &mut [u64], told: &mut [
     let Bodies { a, b, separations, tolerance, budget } = *bodies;
     let terms = Terms { separations, tolerance, budget };
     let mut walk = Walk { terms, queue, sum: 0, least: [CLEAR, u32::MAX, 0, 0, 0, 0] };
-    if FAST {
-        walk.near_pairs(&a, &b);
-    } else {
-        walk.all_pairs(&a, &b);
-    }
+    W::pairs(&mut walk, &a, &b);
     *told = walk.told();
     walk.queue.fill(0);
     0
@@ -93,7 +145,7 @@ impl Points for FourCorners {
     }
 }
 
-struct Walk<'a> {
+pub struct Walk<'a> {
     terms: Terms,
     queue: &'a mut [u64],
     sum: u64,
@@ -102,66 +154,37 @@ struct Walk<'a> {
 }
 
 impl Walk<'_> {
-    fn all_pairs(&mut self, a: &Body, b: &Body) {
-        for m in 0..a.count {
-            let of_a = triangle(a, m);
-            for n in 0..b.count {
-                self.pair::<false>([m as u32, n as u32], &of_a, &triangle(b, n));
-            }
-        }
-    }
-
-    /// The queries of a pair that is apart are counted, and not asked.
-    fn near_pairs(&mut self, a: &Body, b: &Body) {
-        let reaches = Reaches::of(b);
-        for m in 0..a.count {
-            let of_a = triangle(a, m);
-            let near = reaches.near(&of_a, &self.terms.separations);
-            let pairs = near.iter().filter(|near| **near).count();
-            self.sum += u64::from(QUERIES) * (b.count - pairs) as u64;
-            if pairs > 0 {
-                for n in (0..b.count).filter(|n| near[*n]) {
-                    self.pair::<true>([m as u32, n as u32], &of_a, &triangle(b, n));
-                }
-            }
-        }
-    }
-
     #[inline(never)]
-    fn pair<const FAST: bool>(&mut self, at: [u32; 2], a: &Triangle, b: &Triangle) {
+    fn pair<W: Way>(&mut self, at: [u32; 2], a: &Triangle, b: &Triangle) {
         let corner = |triangle: &Triangle, n: usize| [triangle[0][n], triangle[1][n]];
         let [a, b] = [a, b].map(|triangle| [0, 1, 2].map(|n| corner(triangle, n)));
         for (corner, query) in a.into_iter().zip(1..) {
-            self.ask::<true, FAST>(at, query, [corner, b[0], b[1], b[2]]);
+            self.ask::<true, W>(at, query, [corner, b[0], b[1], b[2]]);
         }
         for (corner, query) in b.into_iter().zip(4..) {
-            self.ask::<true, FAST>(at, query, [corner, a[0], a[1], a[2]]);
+            self.ask::<true, W>(at, query, [corner, a[0], a[1], a[2]]);
         }
         for m in 0..3 {
             for n in 0..3 {
                 let points = [a[m], a[(m + 1) % 3], b[n], b[(n + 1) % 3]];
-                self.ask::<false, FAST>(at, (7 + 3 * m + n) as u32, points);
+                self.ask::<false, W>(at, (7 + 3 * m + n) as u32, points);
             }
         }
     }
 
     #[inline(always)]
-    fn ask<const VERTEX_FACE: bool, const FAST: bool>(
+    fn ask<const VERTEX_FACE: bool, W: Way>(
         &mut self,
         at: [u32; 2],
         query: u32,
         points: FourCorners,
     ) {
-        if FAST && cube::misses(VERTEX_FACE, &self.terms.separations, &points) {
+        if W::CUBE_FIRST && cube::misses(VERTEX_FACE, &self.terms.separations, &points) {
             self.sum += 1;
             return;
         }
         let asked = Asked::new(VERTEX_FACE, &self.terms, &points);
-        let [word, t, _, _, excess, count] = if FAST {
-            fast::search(&asked, self.queue)
-        } else {
-            plain::Search::new(asked).run(self.queue)
-        };
+        let [word, t, _, _, excess, count] = W::search(&asked, self.queue);
         self.sum += u64::from(count);
         if word != CLEAR && (self.least[0] == CLEAR || t < self.least[1]) {
             self.least = [word, t, at[0], at[1], query, excess];

@@ -1,61 +1,23 @@
 //! The fastest exact search by hand that could be found: whole numbers, every counted box worked out, a word a stored box.
 
-pub mod cube;
 mod slab;
 
 use super::answering::{Answer, ByHand, CLEAR, FLOOR, MET, ROOM, SPENT};
-use super::motion::{parameter, Asked, DEEPEST, Q};
-use super::reading::Query;
-use slab::{Leasts, Slab, INDEX};
-
-/// Where the t, u and v index stand in a stored box.
-const SHIFTS: [u32; 3] = [40, 20, 0];
+use super::motion::{parameter, Asked, DEEPEST};
+use super::stored::{is_inside, Recorded, INDEX, SHIFTS};
+use slab::{Leasts, Slab};
 
 pub struct Fast;
 
 impl ByHand for Fast {
-    #[inline(always)]
-    fn search(query: &Query, queue: &mut [u64]) -> Answer {
-        if cube::misses(query.is_vertex_face(), &query.separations, query) {
-            return [CLEAR, 0, 0, 0, 0, 1];
-        }
-        from_halves(query, queue)
-    }
-}
+    const CUBE_FIRST: bool = true;
 
-/// By itself, so that level 0 has no share in what it needs.
-#[inline(never)]
-fn from_halves(query: &Query, queue: &mut [u64]) -> Answer {
-    search(&Asked::of(query), queue)
-}
-
-/// The search of a query whose cube survives.
-#[inline(never)]
-pub fn search(asked: &Asked, queue: &mut [u64]) -> Answer {
-    let left = asked.budget as usize;
-    let recorded = Recorded { word: 0, depths: [0; 3] };
-    let mut search = Search { asked, slab: Slab::new(asked), left, made: 0, recorded };
-    let Err(word) = search.levels(queue);
-    let count = asked.budget - search.left as u32;
-    if word == CLEAR {
-        return [CLEAR, 0, 0, 0, 0, count];
-    }
-    let place = search.recorded.place();
-    let [t, u, v] = place.map(|part| part as u32);
-    [word, t, u, v, asked.excess(place), count]
-}
-
-/// A first survivor; what is told of it is worked out at the end.
-struct Recorded {
-    word: u64,
-    depths: [u32; 3],
-}
-
-impl Recorded {
-    /// t, u, v over Q.
-    fn place(&self) -> [i64; 3] {
-        let index = |n: usize| self.word >> SHIFTS[n] & INDEX;
-        [0, 1, 2].map(|n| (index(n) << (DEEPEST - self.depths[n])) as i64)
+    #[inline(never)]
+    fn search(asked: &Asked, queue: &mut [u64]) -> Answer {
+        let (left, recorded) = (asked.budget as usize, Recorded::NONE);
+        let mut search = Search { asked, slab: Slab::new(asked), left, made: 0, recorded };
+        let Err(word) = search.levels(queue);
+        search.recorded.answer(word, asked, search.left)
     }
 }
 
@@ -120,9 +82,7 @@ impl Search<'_> {
     /// Of vertex-face only a high half can be outside; the boxes of a row are so from one on.
     #[inline(always)]
     fn is_inside(&self, word: u64) -> bool {
-        let (u, v) = (word >> 20 & INDEX, word & INDEX);
-        let sum = (u << (DEEPEST - self.slab.depths[1])) + (v << (DEEPEST - self.slab.depths[2]));
-        !self.asked.is_vertex_face || sum <= Q as u64
+        !self.asked.is_vertex_face || is_inside(word, &self.slab.depths)
     }
 
     /// In t: of the boxes of one t index first every low half, then every high one.

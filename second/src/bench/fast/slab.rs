@@ -1,9 +1,8 @@
 //! What all boxes of a level with one t index share, and a row of them checked: neighbours in v are one addition apart.
 
 use crate::bench::motion::{between, Asked, Axes, DEEPEST, Q};
+use crate::bench::stored::INDEX;
 
-/// An index of a stored box.
-pub const INDEX: u64 = 0xF_FFFF;
 /// A row of so many boxes is short.
 const FEW: usize = 2;
 /// No t index, and none comes after it.

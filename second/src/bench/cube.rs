@@ -1,6 +1,6 @@
 //! Level 0 in whole units, before anything is prepared: at the cube's corners t, u, v are 0 or 1.
 
-use crate::bench::motion::Points;
+use super::motion::Points;
 
 /// True where the cube misses: z first, then x, then y.
 #[inline(always)]
