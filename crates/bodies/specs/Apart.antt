@@ -22,7 +22,9 @@ use Rattle.rules.specs.declared.BodyAnswer.{BodyAnswer}
 use Rattle.rules.specs.declared.BodyAnswer.the-variants.{Clear as BodyClear, Least, Refused}
 use Rattle.rules.specs.declared.Terms.{Terms}
 use Rattle.rules.specs.declared.Ask.{Ask}
-use Rattle.rules.specs.Gap.{Axis, X, Y, Z, place, separationOn}
+use Rattle.rules.specs.declared.Axis.{Axis}
+use Rattle.rules.specs.declared.Axis.the-variants.{X, Y, Z}
+use Rattle.rules.specs.Gap.{place, separationOn}
 use Rattle.rules.specs.Refusals.{searchRefusal}
 use Rattle.rules.specs.Answers.{told}
 use Rattle.rules.specs.Search.{search}

@@ -8,7 +8,8 @@ use lib.Dec.{leb}
 use lib.IntN.{natAbs, _-ℤ_}
 use Rattle.whole.specs.Defs.{minZ, maxZ}
 use Rattle.rules.specs.declared.Three.{Three}
-use Rattle.rules.specs.Gap.{Axis, X, Y, Z}
+use Rattle.rules.specs.declared.Axis.{Axis}
+use Rattle.rules.specs.declared.Axis.the-variants.{X, Y, Z}
 use Rattle.rules.specs.declared.Corner.{Corner}
 use Rattle.rules.specs.Search.{Query, overCorners, least, greatest, survives, corner, excess, width, onAll, largest, unit}
 use Rattle.kernel.specs.declared.Pair.{Pair}

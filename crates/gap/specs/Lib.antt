@@ -6,6 +6,7 @@ pub mod Cube
 pub mod Bounds
 pub mod Grid
 pub mod Asked
+pub mod Miss
 pub mod Spread
 pub mod Points
 pub mod Prepared

@@ -8,7 +8,9 @@ use lib.IntN.{ℤ, pos, negℤ, _-ℤ_}
 use lib.ListN.{getD}
 use Rattle.whole.specs.Defs.{turned}
 use Rattle.whole.specs.Within.{Within, within-neg, within-sub}
-use Rattle.rules.specs.Gap.{Axis, X, Y, Z, place, isSecondY, negateFrom}
+use Rattle.rules.specs.declared.Axis.{Axis}
+use Rattle.rules.specs.declared.Axis.the-variants.{X, Y, Z}
+use Rattle.rules.specs.Gap.{place, isSecondY, negateFrom}
 use Rattle.kernel.specs.declared.Kernel.{Kernel}
 use Rattle.kernel.specs.Kernel.{kernelOf}
 use Rattle.kernel.specs.Ranges.{Small}

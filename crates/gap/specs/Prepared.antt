@@ -7,7 +7,9 @@ use lib.Dec.{eqb}
 use lib.IntN.{pos}
 use Rattle.rules.specs.declared.Record.{Record}
 use Rattle.rules.specs.Numbers.{deepest, half}
-use Rattle.rules.specs.Gap.{Axis, X, Y, Z, place, gapOn, isVertexFace, sided, separationOn}
+use Rattle.rules.specs.declared.Axis.{Axis}
+use Rattle.rules.specs.declared.Axis.the-variants.{X, Y, Z}
+use Rattle.rules.specs.Gap.{place, gapOn, isVertexFace, sided, separationOn}
 use Rattle.rules.specs.Refusals.{searchRefusal}
 use Rattle.rules.specs.Search.{Query, query, origin, survives}
 use Rattle.kernel.specs.declared.Kernel.{Kernel}

@@ -14,7 +14,8 @@ use Rattle.whole.specs.Within.{Within, within-add, within-sub, within-mul, with
 use Rattle.rules.specs.declared.Parameter.{Parameter}
 use Rattle.rules.specs.declared.Parameter.the-variants.{InT, InU, InV}
 use Rattle.rules.specs.Numbers.{parts}
-use Rattle.rules.specs.Gap.{Axis, X, Y, Z}
+use Rattle.rules.specs.declared.Axis.{Axis}
+use Rattle.rules.specs.declared.Axis.the-variants.{X, Y, Z}
 use Rattle.rules.specs.Search.{largest, fourWays, spread, side}
 use Rattle.kernel.specs.declared.Kernel.{Kernel}
 use Rattle.kernel.specs.declared.Pair.{Pair}

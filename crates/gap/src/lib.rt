@@ -3,6 +3,7 @@ ghost use mathlib.Core.Path.{_≡_};
 ghost use Prim.Native.Nat.{_≤_};
 ghost use Rattle.rules.specs.Refusals.{searchRefusal};
 ghost use Rattle.rules.specs.Search.{query, origin, survives, inside, corner, excess, near, split};
+ghost use Rattle.rules.specs.Why.{missed};
 ghost use Rattle.kernel.specs.Kernel.{asked};
 ghost use Rattle.kernel.specs.Ranges.{Ranged, Shallow, InGrid};
 ghost use Rattle.gap.specs.Corners.{meets};
@@ -16,10 +17,14 @@ use kernel::Pair;
 use measure::excess;
 use measure::meets_whole;
 use measure::thin;
+use miss::miss_on;
+use miss::or_next;
 use points::Four;
 use points::kernel_at;
 use points::kernel_of;
+use rules::Axis;
 use rules::Corner;
+use rules::Miss;
 use rules::Parameter;
 use rules::Record;
 use rules::Three;
@@ -29,9 +34,10 @@ use weigh::spread_v;
 use weigh::weight;
 use weigh::winner;
 
-mod cell; // cell.rt: a box as its ends in parts
+pub mod cell; // cell.rt: a box as its ends in parts
 pub mod cube; // cube.rt: the least and the greatest of F over the whole cube, on one axis
 mod measure; // measure.rt: what F at the corners says: survival, excess, width
+mod miss; // miss.rt: the side on which F is beyond the separation over all of a cell
 pub mod points; // points.rt: the kernel of an axis, from the coordinates of the eight points
 pub mod slab; // slab.rt: what all boxes of a t index share
 pub mod span; // span.rt: the least and the greatest of F over a cell's corners, on one axis
@@ -62,6 +68,18 @@ pub fn survives_whole(r: Record, words: usize) -> bool
     } else {
         false
     }
+}
+
+// The first axis, x before y before z, and the side on which all of the box is beyond the separation; nowhere where it survives.
+pub fn missed(p: Pair, k: Three, i: Three) -> Miss
+    requires { ⌜ Ranged p × (Shallow k × InGrid k i) ⌝ }
+    ensures { λ r. ⌜ r ≡ missed (asked p) k i ⌝ }
+{
+    let w = cell_of(k, i);
+    let x = miss_on(p.x, w, p.dx, Axis::X);
+    let y = miss_on(p.y, w, p.dy, Axis::Y);
+    let z = miss_on(p.z, w, p.dz, Axis::Z);
+    or_next(x, or_next(y, z))
 }
 
 // Whether a half is kept: for vertex-face its low u plus low v is at most 1.

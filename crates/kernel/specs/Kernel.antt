@@ -5,7 +5,9 @@ use Prim.Native.Nat.{ℕ, _+_, _*_}
 use lib.IntN.{ℤ, pos, _+ℤ_, _-ℤ_, _*ℤ_}
 use lib.ListN.{getD}
 use Rattle.rules.specs.Numbers.{deepest}
-use Rattle.rules.specs.Gap.{Axis, X, Y, Z, place}
+use Rattle.rules.specs.declared.Axis.{Axis}
+use Rattle.rules.specs.declared.Axis.the-variants.{X, Y, Z}
+use Rattle.rules.specs.Gap.{place}
 use Rattle.rules.specs.Search.{Query}
 use Rattle.kernel.specs.declared.Kernel.{Kernel}
 use Rattle.kernel.specs.declared.Pair.{Pair}

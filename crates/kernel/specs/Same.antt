@@ -5,7 +5,8 @@ use mathlib.Core.List.{List, [], _∷_}
 use Prim.Native.Nat.{ℕ, _+_, _*_}
 use lib.IntN.{ℤ, pos}
 use Rattle.whole.specs.Ring.{Ex, var, _:+_, _:*_, _:-_, ring}
-use Rattle.rules.specs.Gap.{Axis, moving, vertexFace, edgeEdge, gapOn}
+use Rattle.rules.specs.declared.Axis.{Axis}
+use Rattle.rules.specs.Gap.{moving, vertexFace, edgeEdge, gapOn}
 use Rattle.kernel.specs.Kernel.{kern, coordinate, kernelOf}
 
 -- expressions over q, a, b, c (0 to 3), and the four coordinates at the start (4 to 7) and at the end (8 to 11)

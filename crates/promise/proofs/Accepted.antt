@@ -51,7 +51,7 @@ accepted-budget r words e = leb→le 1 (r .budget) (and-both (leb 1 (r .budget))
     none = first-none cases tt e
 
 -- ---- what an accepted search answers is kept; `Kept` of a refusal is absurd, so it is an answer
-record-kernel : (r : Record) (words : ℕ) → HasKernel (query r words)
+pub record-kernel : (r : Record) (words : ℕ) → HasKernel (query r words)
 record-kernel r words =
     record {
       kernel = kernelOf (isVertexFace r) (sided r);

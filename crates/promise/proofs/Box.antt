@@ -7,11 +7,13 @@ use native.Mathlib.Omega.{arith}
 use lib.Pow.{pow-pos}
 use lib.IntN.{ℤ, pos, _*ℤ_}
 use Rattle.rules.specs.Numbers.{parts}
-use Rattle.rules.specs.Gap.{Axis, Place}
+use Rattle.rules.specs.declared.Axis.{Axis}
+use Rattle.rules.specs.Gap.{Place}
 use Rattle.rules.specs.Search.{Query, Box, Depths, low, high, unit, ends, overCorners}
 use Rattle.kernel.specs.declared.Kernel.{Kernel}
 use Rattle.kernel.specs.Kernel.{kern}
 use Rattle.kernel.specs.Lines.{kern-scale, line-t, line-u, line-v}
+pub use Rattle.promise.specs.Why.{Between, In}
 use Rattle.promise.proofs.Line.{Convex, on-line}
 use Rattle.promise.proofs.Side.{Side}
 
@@ -46,16 +48,6 @@ module _ (K : Kernel) (q : ℤ) {P : ℤ → Type 0} (convex : Convex P) (t u v 
       in-t g =
           on-line convex (λ a. kern K q (pos a) (pos (u .here)) (pos (v .here))) (λ l d e. line-t K q d e (pos l) (pos (u .here)) (pos (v .here)))
           (t .end false) (t .here) (t .end true) (t .above) (t .under) (t .wide) (g false) (g true)
-
--- ---- a place in a box, cross-multiplied: a/q lies between i and i + 1 sides
-pub record Between (q k i a : ℕ) : Type 0 where
-  pub above : q * low k i ≤ parts * a
-  pub under : parts * a ≤ q * high k i
-
-pub record In (k : Depths) (box : Box) (m : Place) : Type 0 where
-  pub t : Between (m .q) (k .t) (box .t) (m .a)
-  pub u : Between (m .q) (k .u) (box .u) (m .b)
-  pub v : Between (m .q) (k .v) (box .v) (m .c)
 
 abbrev pub cellEnd : Bool → ℕ → ℕ → ℕ
 cellEnd false = low

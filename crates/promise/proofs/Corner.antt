@@ -7,7 +7,8 @@ use native.Mathlib.Omega.{arith}
 use lib.IntN.{natAbs, _-ℤ_}
 use lib.Dec.{T, leb, eqb, leb→le, eqb→eq}
 use Rattle.rules.specs.Numbers.{parts}
-use Rattle.rules.specs.Gap.{Axis, X, Y, Z}
+use Rattle.rules.specs.declared.Axis.{Axis}
+use Rattle.rules.specs.declared.Axis.the-variants.{X, Y, Z}
 use Rattle.rules.specs.Search.{Query, Box, Depths, low, unit, largest, roundUp, least, greatest, survives, width, excess, near}
 use Rattle.promise.proofs.Survive.{survivor-size}
 

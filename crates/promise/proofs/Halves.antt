@@ -25,11 +25,11 @@ half-side k h = ap (λ (n : ℕ). 2 ^ n) (one-more k h) ∙ pow-suc 2 (20 - (k +
     one-more : (k : ℕ) → k < 20 → 20 - k ≡ suc (20 - (k + 1))
     one-more k h = omega arith
 
-double : (k j : ℕ) → k < 20 → j * side k ≡ 2 * j * side (k + 1)
+pub double : (k j : ℕ) → k < 20 → j * side k ≡ 2 * j * side (k + 1)
 double k j h =
     ap (λ (n : ℕ). j * n) (half-side k h) ∙ sym (mul-assoc j (side (k + 1)) 2) ∙ mul-comm (j * side (k + 1)) 2 ∙ sym (mul-assoc 2 j (side (k + 1)))
 
-high-double : (k i : ℕ) → k < 20 → high k i ≡ high (k + 1) (2 * i + 1)
+pub high-double : (k i : ℕ) → k < 20 → high k i ≡ high (k + 1) (2 * i + 1)
 high-double k i h = double k (i + 1) h ∙ ap (λ (n : ℕ). n * side (k + 1)) (next i)
   where
     next : (i : ℕ) → 2 * (i + 1) ≡ 2 * i + 1 + 1
@@ -43,17 +43,17 @@ half-between q k i a h w = go (leb (parts * a) (q * high (k + 1) (2 * i))) (λ t
     go false f g = inr (record { above = g tt; under = subst (λ (n : ℕ). parts * a ≤ q * n) (high-double k i h) (w .under) })
 
 -- ---- a box, by the parameter that it is split in
-abbrev along : Parameter → Place → ℕ
+abbrev pub along : Parameter → Place → ℕ
 along InT m = m .a
 along InU m = m .b
 along InV m = m .c
 
-in-at : (p : Parameter) {k : Depths} {b : Box} {m : Place} → In k b m → Between (m .q) (at p k) (at p b) (along p m)
+pub in-at : (p : Parameter) {k : Depths} {b : Box} {m : Place} → In k b m → Between (m .q) (at p k) (at p b) (along p m)
 in-at InT w = w .t
 in-at InU w = w .u
 in-at InV w = w .v
 
-in-on : (p : Parameter) (f : ℕ → ℕ) {k : Depths} {b : Box} {m : Place} → In k b m → Between (m .q) (at p k + 1) (f (at p b)) (along p m) → In (deeper p k) (on p f b) m
+pub in-on : (p : Parameter) (f : ℕ → ℕ) {k : Depths} {b : Box} {m : Place} → In k b m → Between (m .q) (at p k + 1) (f (at p b)) (along p m) → In (deeper p k) (on p f b) m
 in-on InT f w x = record { t = x; u = w .u; v = w .v }
 in-on InU f w x = record { t = w .t; u = x; v = w .v }
 in-on InV f w x = record { t = w .t; u = w .u; v = x }

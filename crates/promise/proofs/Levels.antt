@@ -13,7 +13,8 @@ use Rattle.rules.specs.declared.Corner.{Corner}
 use Rattle.rules.specs.declared.Answer.{Answer}
 use Rattle.rules.specs.declared.Answer.the-variants.{Met, Clear, Spent, Room, Floor, Refused}
 use Rattle.rules.specs.Numbers.{parts}
-use Rattle.rules.specs.Gap.{Axis, Place}
+use Rattle.rules.specs.declared.Axis.{Axis}
+use Rattle.rules.specs.Gap.{Place}
 use Rattle.rules.specs.Search.{Query, Box, Depths, side, low, unit, survives, corner, full, Checked, check, those, split, deeper, halves, inside, ifRoom, afterLevel, levels, origin, run}
 use Rattle.kernel.specs.Ranges.{InGrid}
 use Rattle.promise.proofs.Box.{Between, In, HasKernel}

@@ -15,3 +15,4 @@ pub mod Demands
 pub mod Sharp
 pub mod Old
 pub mod Bodies
+pub mod Why

@@ -6,15 +6,12 @@ use mathlib.Core.List.{List, [], _∷_, map}
 use Prim.Native.Nat.{ℕ, _≤_}
 use native.Mathlib.Nat.{le-trans, le-refl, le-of-lt}
 use lib.Dec.{T, leb, ltb, eqb, ltb→lt, nltb→le, eqb→eq}
+pub use Rattle.promise.specs.Why.{Some}
 use Rattle.rules.specs.Search.{Box, those, notAfter, takeIn, merge}
 
 abbrev pub Every : (Box → Type 0) → List Box → Type 0
 Every P [] = Unit
 Every P (b ∷ bs) = P b × Every P bs
-
-abbrev pub Some : (Box → Type 0) → List Box → Type 0
-Some P [] = ⊥
-Some P (b ∷ bs) = P b ⊎ Some P bs
 
 -- every t index is n or more
 abbrev pub From : ℕ → List Box → Type 0

@@ -10,7 +10,9 @@ use lib.Dec.{leb, eqb}
 use Rattle.rules.specs.declared.Record.{Record}
 use Rattle.rules.specs.declared.Corner.{Corner}
 use Rattle.rules.specs.Numbers.{parts, isSeparation}
-use Rattle.rules.specs.Gap.{Axis, X, Y, Z, separationOn}
+use Rattle.rules.specs.declared.Axis.{Axis}
+use Rattle.rules.specs.declared.Axis.the-variants.{X, Y, Z}
+use Rattle.rules.specs.Gap.{separationOn}
 use Rattle.rules.specs.Refusals.{first, searchRefusal}
 use Rattle.rules.specs.Search.{Query, query, Box, Depths, low, unit, least, greatest, onAll, largest, width, roundUp, excess, corner, near, survives, Checked, keep, firstSurvivor, full, oneBox, check, afterLevel, levels, run, origin, unless, search}
 use Rattle.rules.specs.QueryFile.{word, recordBy, recordAt}

@@ -11,7 +11,8 @@ use Rattle.rules.specs.declared.Answer.the-variants.{Met, Clear}
 use Rattle.rules.specs.declared.Told.{Told}
 use Rattle.rules.specs.Numbers.{parts}
 use Rattle.rules.specs.Answers.{told, hasMoment}
-use Rattle.rules.specs.Gap.{X, Y, Z, Place, OnBodies, Contact, moving, vertexFace, edgeEdge, gapOn, negateFrom, sided}
+use Rattle.rules.specs.declared.Axis.the-variants.{X, Y, Z}
+use Rattle.rules.specs.Gap.{Place, OnBodies, Contact, moving, vertexFace, edgeEdge, gapOn, negateFrom, sided}
 use Rattle.rules.specs.Refusals.{first, every, searchRefusal}
 use Rattle.rules.specs.Search.{search, run, levels, afterLevel, ifRoom, halves, merge, takeIn, notAfter, those, inside, split, winner, spread, check, oneBox, near, firstSurvivor, corner, excess, width, survives, least, greatest, overCorners, unless}
 use Rattle.rules.specs.Berth.{asked, point, still, below-flag, falling, T as face, P-T}

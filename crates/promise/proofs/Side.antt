@@ -42,7 +42,7 @@ at-most-limit n d N h x g = ⊎-elim (λ y. y) (λ y. absurd (over (≤ℤ-trans
     over : pos (n * (d + 1)) ≤ℤ pos N → ⊥
     over y = omega zed
 
-times-minus : (a n : ℕ) → pos a *ℤ negℤ (pos n) ≡ negℤ (pos (a * n))
+pub times-minus : (a n : ℕ) → pos a *ℤ negℤ (pos n) ≡ negℤ (pos (a * n))
 times-minus a zero = ap pos (mul-zero a) ∙ sym (ap (λ (n : ℕ). negℤ (pos n)) (mul-zero a))
 times-minus a (suc n) = refl
 

@@ -10,7 +10,9 @@ use lib.Dec.{T}
 use Rattle.whole.specs.Within.{abs-mul}
 use Rattle.whole.specs.View.{zed, abs-view, minus-view, neg-up, neg-dn}
 use Rattle.rules.specs.Numbers.{parts}
-use Rattle.rules.specs.Gap.{Axis, X, Y, Z, Place}
+use Rattle.rules.specs.declared.Axis.{Axis}
+use Rattle.rules.specs.declared.Axis.the-variants.{X, Y, Z}
+use Rattle.rules.specs.Gap.{Place}
 use Rattle.rules.specs.Search.{Query, Box, Depths, low, unit, overCorners, least, greatest, survives}
 use Rattle.promise.proofs.Side.{Side, from-least, to-greatest}
 use Rattle.promise.proofs.Box.{In, HasKernel, box-bound, corner-bound}
@@ -32,12 +34,12 @@ unfoldable pub reaches : Query → Depths → Box → Axis → Bool
 reaches S k box axis = leZ (least S k box axis) (pos (limitOn S axis)) && leZ (negℤ (pos (limitOn S axis))) (greatest S k box axis)
 
 module _ (S : Query) (k : Depths) (box : Box) where
-  survives-intro : ((axis : Axis) → T (reaches S k box axis)) → T (survives S k box)
+  pub survives-intro : ((axis : Axis) → T (reaches S k box axis)) → T (survives S k box)
   unfolding survives reaches
   survives-intro f =
       and-intro (reaches S k box X && reaches S k box Y) (reaches S k box Z) (and-intro (reaches S k box X) (reaches S k box Y) (f X) (f Y)) (f Z)
 
-  survives-on : T (survives S k box) → (axis : Axis) → T (reaches S k box axis)
+  pub survives-on : T (survives S k box) → (axis : Axis) → T (reaches S k box axis)
   unfolding survives reaches
   survives-on t X = and-both (reaches S k box X) (reaches S k box Y) (and-both (reaches S k box X && reaches S k box Y) (reaches S k box Z) t .0) .0
   survives-on t Y = and-both (reaches S k box X) (reaches S k box Y) (and-both (reaches S k box X && reaches S k box Y) (reaches S k box Z) t .0) .1

@@ -2,3 +2,4 @@
 pub mod Promise
 pub mod OldRules
 pub mod Bodies
+pub mod Why

@@ -9,7 +9,8 @@ use Rattle.rules.specs.declared.Record.{Record}
 use Rattle.rules.specs.declared.Answer.the-variants.{Refused}
 use Rattle.rules.specs.declared.Told.{Told}
 use Rattle.rules.specs.Numbers.{parts}
-use Rattle.rules.specs.Gap.{Axis, gapOn, sided, isVertexFace, separationOn, Place, OnBodies, Contact}
+use Rattle.rules.specs.declared.Axis.{Axis}
+use Rattle.rules.specs.Gap.{gapOn, sided, isVertexFace, separationOn, Place, OnBodies, Contact}
 use Rattle.rules.specs.Answers.{told, hasMoment}
 use Rattle.rules.specs.Refusals.{searchRefusal}
 use Rattle.rules.specs.Search.{search}

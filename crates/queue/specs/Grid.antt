@@ -34,13 +34,13 @@ more-low i k h = omega (arith, double k)
 more-high : (i k : ℕ) → i < 2 ^ k → 2 * i + 1 < 2 ^ (k + 1)
 more-high i k h = omega (arith, double k)
 
+pub half-grid : (p : Parameter) (high : Bool) (k : Depths) (b : Box) → InGrid k b → InGrid (deeper p k) (halfOf p high b)
+half-grid InT false k b g = record { t = more-low _ _ (g .t); u = g .u; v = g .v }
+half-grid InT true k b g = record { t = more-high _ _ (g .t); u = g .u; v = g .v }
+half-grid InU false k b g = record { t = g .t; u = more-low _ _ (g .u); v = g .v }
+half-grid InU true k b g = record { t = g .t; u = more-high _ _ (g .u); v = g .v }
+half-grid InV false k b g = record { t = g .t; u = g .u; v = more-low _ _ (g .v) }
+half-grid InV true k b g = record { t = g .t; u = g .u; v = more-high _ _ (g .v) }
+
 pub splits-grid : (p : Parameter) (k : Depths) (w : ℕ) → OfLevel k w → Splits (deeper p k) p w
-splits-grid p k w g = record { fits = g .fits; halves = grid p }
-  where
-    grid : (p : Parameter) (high : Bool) → InGrid (deeper p k) (halfOf p high (boxOf w))
-    grid InT false = record { t = more-low _ _ (g .grid .t); u = g .grid .u; v = g .grid .v }
-    grid InT true = record { t = more-high _ _ (g .grid .t); u = g .grid .u; v = g .grid .v }
-    grid InU false = record { t = g .grid .t; u = more-low _ _ (g .grid .u); v = g .grid .v }
-    grid InU true = record { t = g .grid .t; u = more-high _ _ (g .grid .u); v = g .grid .v }
-    grid InV false = record { t = g .grid .t; u = g .grid .u; v = more-low _ _ (g .grid .v) }
-    grid InV true = record { t = g .grid .t; u = g .grid .u; v = more-high _ _ (g .grid .v) }
+splits-grid p k w g = record { fits = g .fits; halves = λ high. half-grid p high k (boxOf w) (g .grid) }

@@ -7,9 +7,8 @@ use lib.IntN.{ℤ, pos, negℤ, natAbs, _+ℤ_, _-ℤ_, _*ℤ_}
 use lib.ListN.{getD}
 use lib.Dec.{T, eqb, leb}
 use Rattle.rules.specs.declared.Record.{Record}
-
-pub data Axis : Type 0 where
-  X Y Z : Axis
+use Rattle.rules.specs.declared.Axis.{Axis}
+use Rattle.rules.specs.declared.Axis.the-variants.{X, Y, Z}
 
 abbrev pub place : Axis → ℕ
 place X = 0

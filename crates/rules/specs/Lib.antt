@@ -8,3 +8,5 @@ pub mod QueryFile
 pub mod Berth
 pub mod Bodies
 pub mod BodyExamples
+pub mod Why
+pub mod WhyExamples

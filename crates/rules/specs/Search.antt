@@ -14,7 +14,9 @@ use Rattle.rules.specs.declared.Corner.{Corner}
 use Rattle.rules.specs.declared.Answer.{Answer}
 use Rattle.rules.specs.declared.Answer.the-variants.{Met, Clear, Spent, Room, Floor, Refused}
 use Rattle.rules.specs.Numbers.{parts, half, deepest}
-use Rattle.rules.specs.Gap.{Axis, X, Y, Z, gapOn, sided, isVertexFace, separationOn}
+use Rattle.rules.specs.declared.Axis.{Axis}
+use Rattle.rules.specs.declared.Axis.the-variants.{X, Y, Z}
+use Rattle.rules.specs.Gap.{gapOn, sided, isVertexFace, separationOn}
 use Rattle.rules.specs.Refusals.{searchRefusal}
 
 -- ---- what is searched

@@ -146,3 +146,36 @@ pub enum BodyAnswer {
     },
     Refused(u32),
 }
+
+// The axes, and the two sides of the separation on one: F above it, or below minus it.
+pub enum Axis {
+    X,
+    Y,
+    Z,
+}
+
+pub enum Side {
+    Above,
+    Below,
+}
+
+// Where a box is beyond the separation: nowhere, or over all of it on an axis and a side.
+pub enum Miss {
+    Nowhere,
+    On(Axis, Side),
+}
+
+// Why a point is ruled out (document 02, R-8): the level, the depths and the index of a discarded box, and the axis and side that discard it.
+pub struct Reason {
+    pub level: u64,
+    pub depths: Three,
+    pub index: Three,
+    pub axis: Axis,
+    pub side: Side,
+}
+
+// What one who points at a moment and place is answered. A refusal carries its number.
+pub enum Ruling {
+    Discarded(Reason),
+    Refused(u32),
+}

@@ -157,7 +157,8 @@ fn check_level(p: Pair, queue: &mut [u64], l: Level) -> Step
     })
 }
 
-fn deepen(split: Parameter, k: Three) -> Three
+// The depths after a split.
+pub fn deepen(split: Parameter, k: Three) -> Three
     requires { ⌜ Shallow k ⌝ }
     ensures { λ r. ⌜ r ≡ deeper split k ⌝ }
 {

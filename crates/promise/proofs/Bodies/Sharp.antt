@@ -8,7 +8,8 @@ use Rattle.rules.specs.declared.Terms.{Terms}
 use Rattle.rules.specs.declared.BodyAnswer.{BodyAnswer}
 use Rattle.rules.specs.declared.BodyAnswer.the-variants.{Clear, Least, Refused}
 use Rattle.rules.specs.Numbers.{parts}
-use Rattle.rules.specs.Gap.{X, Y, Z, Place, OnBodies, Contact, moving, vertexFace, edgeEdge, gapOn, negateFrom, sided}
+use Rattle.rules.specs.declared.Axis.the-variants.{X, Y, Z}
+use Rattle.rules.specs.Gap.{Place, OnBodies, Contact, moving, vertexFace, edgeEdge, gapOn, negateFrom, sided}
 use Rattle.rules.specs.Refusals.{first, every, searchRefusal}
 use Rattle.rules.specs.Search.{search, run, levels, afterLevel, ifRoom, halves, merge, takeIn, notAfter, those, inside, split, winner, spread, check, oneBox, near, firstSurvivor, corner, excess, width, survives, least, greatest, overCorners, unless}
 use Rattle.rules.specs.Bodies.{Body, askOf, askedFrom, eachFrom, queriesOf, firstRefused, bodyRefusal, counted, isLess, sumOf, heard, hearAll, bodyUnless, bodySearch}

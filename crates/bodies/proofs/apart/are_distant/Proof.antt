@@ -1,5 +1,5 @@
 -- `bodies::apart::are_distant` meets its contract: on the first axis that is apart. Assumes nothing.
-use Rattle.rules.specs.Gap.{X, Y, Z}
+use Rattle.rules.specs.declared.Axis.the-variants.{X, Y, Z}
 use Rattle.bodies.specs.Apart.{distant-from}
 use borrow.Author.Needs.{needs}
 use Rattle.bodies.proofs.apart.are_distant.Statement.{statement}

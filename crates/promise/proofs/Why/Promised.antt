@@ -1,0 +1,191 @@
+-- What specs/Why.antt states, of every record, number of words and point.
+use mathlib.Core.Path.{_≡_, refl, sym, ap, _∙_, subst}
+use mathlib.Core.Logic.{inl, inr}
+use mathlib.Core.Bool.{Bool, true, false, not, cond, _&&_, _||_}
+use Prim.Native.Nat.{ℕ, zero, suc, _+_, _<_}
+use native.Mathlib.Omega.{arith}
+use lib.ListN.{length}
+use lib.Dec.{T, leb, leb→le, le→leb, ltb→lt, lt→ltb}
+use Rattle.rules.specs.declared.Record.{Record}
+use Rattle.rules.specs.declared.Three.{Three}
+use Rattle.rules.specs.declared.Corner.{Corner}
+use Rattle.rules.specs.declared.Answer.{Answer}
+use Rattle.rules.specs.declared.Answer.the-variants.{Met, Clear, Spent, Room, Floor, Refused as RefusedAnswer}
+use Rattle.rules.specs.declared.Reason.{Reason}
+use Rattle.rules.specs.declared.Ruling.{Ruling}
+use Rattle.rules.specs.declared.Ruling.the-variants.{Discarded, Refused}
+use Rattle.rules.specs.Numbers.{parts}
+use Rattle.rules.specs.Gap.{OnBodies, isVertexFace}
+use Rattle.rules.specs.Answers.{told}
+use Rattle.rules.specs.Refusals.{first, orElse, searchRefusal}
+use Rattle.rules.specs.Search.{query, Checked, afterLevel, ifRoom, levels, run, search, unless, origin}
+use Rattle.rules.specs.Why.{inDomain, isBefore, whyRefusal, unlessWhy, whySearch, descend}
+use Rattle.promise.specs.Why.{pointed, whole, next, Own-levels, Named, Names-discarded, NotYet, Named-exactly, Why-refused-exactly}
+use Rattle.promise.proofs.Survive.{and-both, and-intro}
+use Rattle.promise.proofs.Domain.{Domain, on-bodies}
+use Rattle.promise.proofs.Accepted.{record-kernel}
+use Rattle.promise.proofs.Why.Down.{Rules, run-rules}
+
+-- ---- the levels that a search comes to are its own
+own-room : (x : Bool) (c : Corner) (n : ℕ) (go : Corner → ℕ → Answer) → T x → go c n ≡ ifRoom x c n go
+unfolding ifRoom
+own-room true c n go t = refl
+own-room false c n go t = absurd t
+
+pub own-levels : Own-levels
+unfolding levels afterLevel run
+own-levels q m k boxes c n whole = refl
+own-levels q m' k' new d' i' (next m k boxes c n i d box rest w e t) =
+    own-room (leb (length new) (q .room)) d i (levels m q k' new) t
+    ∙ sym (ap (λ (r : Checked). afterLevel q k (levels m q) r) e)
+    ∙ own-levels q (suc m) k boxes c n w
+
+-- ---- where nothing is refused
+module _ (r : Record) (words : ℕ) (at : Three) where
+  ruled : searchRefusal r words ≡ 0 → Domain (query r words) (pointed at) → T (isBefore (search r words) (at .t)) → Rules (query r words) at (descend 60 (query r words) at origin origin)
+  unfolding search unless
+  ruled e d t =
+      run-rules (query r words) at (record-kernel r words) (omega arith) d
+      (subst (λ (n : ℕ). T (isBefore (unless n (run (query r words))) (at .t))) e t)
+
+  -- the tests of the point
+  abbrev ft : Bool
+  ft = leb (at .t) parts
+
+  abbrev fu : Bool
+  fu = leb (at .u) parts
+
+  abbrev fv : Bool
+  fv = leb (at .v) parts
+
+  abbrev fs : Bool
+  fs = leb (at .u + at .v) parts
+
+  to-domain : T (inDomain r at) → Domain (query r words) (pointed at)
+  unfolding inDomain
+  to-domain t =
+      let a = and-both (ft && fu && fv) (not (isVertexFace r) || fs) t in
+      let b = and-both (ft && fu) fv (a .0) in
+      let c = and-both ft fu (b .0) in
+      record {
+        positive = omega arith;
+        t = leb→le _ _ (c .0);
+        u = leb→le _ _ (c .1);
+        v = leb→le _ _ (b .1);
+        face = λ f. leb→le _ _ (face (isVertexFace r) fs f (a .1));
+      }
+    where
+      face : (f x : Bool) → T f → T (not f || x) → T x
+      face true x p t = t
+      face false x p t = absurd p
+
+  from-domain : OnBodies r (pointed at) → T (inDomain r at)
+  unfolding inDomain
+  from-domain d =
+      and-intro (ft && fu && fv) (not (isVertexFace r) || fs)
+      (and-intro (ft && fu) fv (and-intro ft fu (le→leb _ _ (d .t)) (le→leb _ _ (d .u))) (le→leb _ _ (d .v)))
+      (face (isVertexFace r) (λ f. le→leb _ _ (d .face f)))
+    where
+      face : (f : Bool) → (T f → T fs) → T (not f || fs)
+      face true g = g tt
+      face false g = tt
+
+  to-before : (a : Answer) → NotYet (told a) at → T (isBefore a (at .t))
+  unfolding isBefore
+  to-before (Met t u v excess count) (inr h) = lt→ltb _ _ (h .1)
+  to-before (Met t u v excess count) (inl e) = absurd (omega arith)
+  to-before (Clear count) h = tt
+  to-before (Spent t u v excess count) (inr h) = lt→ltb _ _ (h .1)
+  to-before (Spent t u v excess count) (inl e) = absurd (omega arith)
+  to-before (Room t u v excess count) (inr h) = lt→ltb _ _ (h .1)
+  to-before (Room t u v excess count) (inl e) = absurd (omega arith)
+  to-before (Floor t u v excess count) (inr h) = lt→ltb _ _ (h .1)
+  to-before (Floor t u v excess count) (inl e) = absurd (omega arith)
+  to-before (RefusedAnswer n) (inr h) = h .0
+  to-before (RefusedAnswer n) (inl e) = absurd (omega arith)
+
+  from-before : (a : Answer) → T (isBefore a (at .t)) → NotYet (told a) at
+  unfolding isBefore
+  from-before (Met t u v excess count) h = inr (tt, ltb→lt _ _ h)
+  from-before (Clear count) h = inl refl
+  from-before (Spent t u v excess count) h = inr (tt, ltb→lt _ _ h)
+  from-before (Room t u v excess count) h = inr (tt, ltb→lt _ _ h)
+  from-before (Floor t u v excess count) h = inr (tt, ltb→lt _ _ h)
+  from-before (RefusedAnswer n) h = absurd h
+
+  -- ---- the refusals, by the three tests
+  abbrev refusal : ℕ → Bool → Bool → ℕ
+  refusal n x y = orElse n (cond (not x) 23 (cond (not y) 24 0))
+
+  refusal-is : whyRefusal r words at ≡ refusal (searchRefusal r words) (inDomain r at) (isBefore (search r words) (at .t))
+  unfolding whyRefusal first
+  refusal-is = refl
+
+  pub none-due : whyRefusal r words at ≡ 0 → (searchRefusal r words ≡ 0) × T (inDomain r at) × T (isBefore (search r words) (at .t))
+  none-due e = go (searchRefusal r words) (inDomain r at) (isBefore (search r words) (at .t)) (sym refusal-is ∙ e)
+    where
+      go : (n : ℕ) (x y : Bool) → refusal n x y ≡ 0 → (n ≡ 0) × T x × T y
+      go zero true true e = (refl, tt, tt)
+      go zero true false e = absurd (omega arith)
+      go zero false y e = absurd (omega arith)
+      go (suc n) x y e = absurd (omega arith)
+
+  due-none : searchRefusal r words ≡ 0 → T (inDomain r at) → T (isBefore (search r words) (at .t)) → whyRefusal r words at ≡ 0
+  due-none e s t = refusal-is ∙ go (searchRefusal r words) (inDomain r at) (isBefore (search r words) (at .t)) e s t
+    where
+      go : (n : ℕ) (x y : Bool) → n ≡ 0 → T x → T y → refusal n x y ≡ 0
+      go zero true true e s t = refl
+      go zero true false e s t = absurd t
+      go zero false y e s t = absurd s
+      go (suc n) x y e s t = absurd (omega arith)
+
+  -- so what is not refused has its box
+  rules : whyRefusal r words at ≡ 0 → Rules (query r words) at (descend 60 (query r words) at origin origin)
+  rules e = let n = none-due e in ruled (n .0) (to-domain (n .1)) (n .2)
+
+-- ---- the promises
+pub names-discarded : Names-discarded
+unfolding whySearch unlessWhy
+names-discarded r words at x e = go (whyRefusal r words at) refl e
+  where
+    go : (n : ℕ) → whyRefusal r words at ≡ n → unlessWhy n (descend 60 (query r words) at origin origin) ≡ Discarded x → Named (query r words) at x
+    go zero f e = subst (Rules (query r words) at) e (rules r words at f)
+    go (suc n) f e = let z : _≡_ {A = ℕ} 0 1 = cc in absurd (omega arith)
+
+-- what is not refused has its box
+pub has-box : (r : Record) (words : ℕ) (at : Three) → whyRefusal r words at ≡ 0 → (x : Reason) × (whySearch r words at ≡ Discarded x)
+unfolding whySearch unlessWhy
+has-box r words at free = go (whyRefusal r words at) free (descend 60 (query r words) at origin origin) (rules r words at free)
+  where
+    go : (n : ℕ) → n ≡ 0 → (y : Ruling) → Rules (query r words) at y → (x : Reason) × (unlessWhy n y ≡ Discarded x)
+    go zero f (Discarded x) g = (x, refl)
+    go zero f (Refused m) g = absurd g
+    go (suc n) f y g = absurd (omega arith)
+
+pub named-exactly : Named-exactly
+unfolding whySearch unlessWhy
+named-exactly r words at =
+    (λ p. given (whyRefusal r words at) refl (p .0) (p .1), λ p. has-box r words at (due-none r words at (p .0) (from-domain r words at (p .1)) (to-before r words at (search r words) (p .2))))
+  where
+    given : (n : ℕ) → whyRefusal r words at ≡ n → (x : Reason) → unlessWhy n (descend 60 (query r words) at origin origin) ≡ Discarded x
+        → (searchRefusal r words ≡ 0) × OnBodies r (pointed at) × NotYet (told (search r words)) at
+    given zero e x f = let h = none-due r words at e in (h .0, on-bodies r words (to-domain r words at (h .1)), from-before r words at (search r words) (h .2))
+    given (suc n) e x f = let z : _≡_ {A = ℕ} 0 1 = cc in absurd (omega arith)
+
+pub why-refused-exactly : Why-refused-exactly
+unfolding whySearch unlessWhy
+why-refused-exactly r words at n =
+    (λ e. there (whyRefusal r words at) refl e, λ p. ap (λ (k : ℕ). unlessWhy k (descend 60 (query r words) at origin origin)) (p .1) ∙ back n (p .0))
+  where
+    never : (y : Ruling) → Rules (query r words) at y → y ≡ Refused n → ⊥
+    never y g f = subst (Rules (query r words) at) f g
+
+    there : (k : ℕ) → whyRefusal r words at ≡ k → unlessWhy k (descend 60 (query r words) at origin origin) ≡ Refused n → (0 < n) × (whyRefusal r words at ≡ n)
+    there zero e f = absurd (never (descend 60 (query r words) at origin origin) (rules r words at e) f)
+    there (suc k) e f =
+        let g : suc k ≡ n = cc in
+        (omega arith, e ∙ g)
+
+    back : (k : ℕ) → 0 < k → unlessWhy k (descend 60 (query r words) at origin origin) ≡ Refused k
+    back zero h = absurd (omega arith)
+    back (suc k) h = refl

@@ -1,0 +1,24 @@
+-- The split, the depths after it, and the half.
+use borrow.Author.Needs.{needs}
+use Rattle.why.proofs.Going.{halves}
+use Rattle.why.proofs.half.Statement.{statement}
+use Rattle.why.proofs.half.Tie as tie
+
+split-requires : tie.Need-split-requires
+split-requires c κs = search needs
+
+deepen-requires : tie.Need-deepen-requires
+deepen-requires c κs = search needs
+
+holding-requires : tie.Need-holding-requires
+holding-requires c κs =
+    let s = c .before .before .before .before in
+    rw (c .before .split .ensures) (halves (s .args .p) (s .args .c) (s .pre))
+
+returns : tie.Need-returns
+returns c =
+    let d = c .before in
+    rw (c .holding .ensures, d .deepen .ensures, d .before .split .ensures)
+
+pub half-spec : {M : Type 1} → statement M
+half-spec = tie.close (tie.spec split-requires deepen-requires holding-requires returns)

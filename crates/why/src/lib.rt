@@ -1,0 +1,203 @@
+// Why a point was ruled out: from the whole domain down into the half that holds it, to the first box that was discarded.
+ghost use mathlib.Core.Path.{_≡_};
+ghost use Prim.Native.Nat.{_≤_, _<_, _^_};
+ghost use lib.ListN.{length};
+ghost use Rattle.rules.specs.Refusals.{searchRefusal};
+ghost use Rattle.rules.specs.Search.{query, origin};
+ghost use Rattle.rules.specs.Why.{inUpper, goesUp, holding, descend, inDomain, isBefore, whySearch, whyQueueAfter};
+ghost use Rattle.kernel.specs.Kernel.{asked};
+ghost use Rattle.kernel.specs.Ranges.{Shallow};
+ghost use Rattle.why.specs.Way.{Halves, Good, Splits, halfOf, reasonOf};
+use boxes::high_half;
+use boxes::low_half;
+use gap::cell::PARTS;
+use gap::cell::low;
+use kernel::Pair;
+use queue::clear;
+use rules::Answer;
+use rules::Axis;
+use rules::Miss;
+use rules::Parameter;
+use rules::Reason;
+use rules::Record;
+use rules::Ruling;
+use rules::Side;
+use rules::Three;
+use search::deepen;
+use search::search_accepted;
+
+// A box at its depths.
+pub struct Cell {
+    pub depths: Three,
+    pub index: Three,
+}
+
+// Whether a point, in parts, is inside the domain. A sum is taken only of numbers that are.
+fn in_domain(r: Record, at: Three) -> bool
+    ensures { λ b. ⌜ b ≡ inDomain r at ⌝ }
+{
+    if PARTS < at.t {
+        return false;
+    }
+    if PARTS < at.u {
+        return false;
+    }
+    if PARTS < at.v {
+        return false;
+    }
+    if r.kind == 1 {
+        at.u + at.v <= PARTS
+    } else {
+        true
+    }
+}
+
+// Whether a moment is before the answered one; under CLEAR every moment is.
+fn is_before(a: Answer, at: u64) -> bool
+    ensures { λ b. ⌜ b ≡ isBefore a at ⌝ }
+{
+    match a {
+        Answer::Met {
+            t,
+            u,
+            v,
+            excess,
+            count,
+        } => at < t as u64,
+        Answer::Clear(count) => true,
+        Answer::Spent {
+            t,
+            u,
+            v,
+            excess,
+            count,
+        } => at < t as u64,
+        Answer::Room {
+            t,
+            u,
+            v,
+            excess,
+            count,
+        } => at < t as u64,
+        Answer::Floor {
+            t,
+            u,
+            v,
+            excess,
+            count,
+        } => at < t as u64,
+        Answer::Refused(number) => false,
+    }
+}
+
+// Whether the upper half of a cell holds the point, which the cell does: on the boundary between them it does.
+fn is_upper(k: u64, i: u64, at: u64) -> bool
+    requires { ⌜ (k < 20) × (i < 2 ^ k) ⌝ }
+    ensures { λ r. ⌜ r ≡ inUpper k i at ⌝ }
+{
+    low(k + 1, 2 * i + 1) <= at
+}
+
+fn goes_up(split: Parameter, k: Three, b: Three, at: Three) -> bool
+    requires { ⌜ Halves split k b ⌝ }
+    ensures { λ r. ⌜ r ≡ goesUp split k b at ⌝ }
+{
+    match split {
+        Parameter::InT => is_upper(k.t, b.t, at.t),
+        Parameter::InU => is_upper(k.u, b.u, at.u),
+        Parameter::InV => is_upper(k.v, b.v, at.v),
+    }
+}
+
+// The half of a box that holds the point.
+fn holding(split: Parameter, k: Three, b: Three, at: Three) -> Three
+    requires { ⌜ Halves split k b ⌝ }
+    ensures { λ r. ⌜ r ≡ holding split k b at ⌝ }
+{
+    if goes_up(split, k, b, at) {
+        high_half(split, b)
+    } else {
+        low_half(split, b)
+    }
+}
+
+// The same at its depths, a level further down.
+fn half(p: Pair, at: Three, c: Cell) -> Cell
+    requires { ⌜ Splits p c ⌝ }
+    ensures { λ r. ⌜ r ≡ halfOf (asked p) at c ⌝ }
+{
+    let k = c.depths;
+    let i = c.index;
+    let split = gap::split(p, k);
+    let depths = deepen(split, k);
+    let index = holding(split, k, i, at);
+    Cell { depths, index }
+}
+
+fn reason(c: Cell, axis: Axis, side: Side) -> Reason
+    requires { ⌜ Shallow (c .depths) ⌝ }
+    ensures { λ r. ⌜ r ≡ reasonOf c axis side ⌝ }
+{
+    let k = c.depths;
+    let i = c.index;
+    let level = k.t + k.u + k.v;
+    Reason {
+        level,
+        depths: k,
+        index: i,
+        axis,
+        side,
+    }
+}
+
+// With at most `left` levels more: the number that falls. Everything that is not the call of itself stands outside.
+fn go_down(p: Pair, at: Three, c: Cell, left: u64) -> Ruling
+    requires { ⌜ Good p c left ⌝ }
+    ensures { λ r. ⌜ r ≡ descend left (asked p) at (c .depths) (c .index) ⌝ }
+{
+    let k = c.depths;
+    let i = c.index;
+    match gap::missed(p, k, i) {
+        Miss::On(axis, side) => Ruling::Discarded(reason(c, axis, side)),
+        Miss::Nowhere => {
+            if left == 0 {
+                Ruling::Refused(0)
+            } else {
+                go_down(p, at, half(p, at, c), left - 1)
+            }
+        }
+    }
+}
+
+// From the whole domain.
+fn from_whole(r: Record, words: usize, at: Three) -> Ruling
+    requires { ⌜ searchRefusal r words ≡ 0 ⌝ }
+    ensures { λ a. ⌜ a ≡ descend 60 (query r words) at origin origin ⌝ }
+{
+    let p = gap::prepare(r, words);
+    let c = Cell {
+        depths: Three { t: 0, u: 0, v: 0 },
+        index: Three { t: 0, u: 0, v: 0 },
+    };
+    go_down(p, at, c, 60)
+}
+
+// Why a point, in parts, was ruled out. What refuses the query, and 23, leave the queue as it was; 24 and every answer leave it zero.
+pub fn why(r: Record, at: Three, queue: &mut [u64]) -> Ruling
+    ensures { λ a. ⌜ a ≡ whySearch r (length (now (queue .entry))) at ⌝ }
+    ensures { λ a. ⌜ now (queue .exit) ≡ whyQueueAfter (whySearch r (length (now (queue .entry))) at) (now (queue .entry)) ⌝ }
+{
+    let number = refusals::search_refusal(r, queue.len());
+    if number != 0 {
+        return Ruling::Refused(number);
+    }
+    if !in_domain(r, at) {
+        return Ruling::Refused(23);
+    }
+    clear(queue);
+    let a = search_accepted(r, queue);
+    if !is_before(a, at.t) {
+        return Ruling::Refused(24);
+    }
+    from_whole(r, queue.len(), at)
+}
