@@ -43,17 +43,17 @@ half-between q k i a h w = go (leb (parts * a) (q * high (k + 1) (2 * i))) (λ t
     go false f g = inr (record { above = g tt; under = subst (λ (n : ℕ). parts * a ≤ q * n) (high-double k i h) (w .under) })
 
 -- ---- a box, by the parameter that it is split in
-abbrev pub along : Parameter → Place → ℕ
+abbrev along : Parameter → Place → ℕ
 along InT m = m .a
 along InU m = m .b
 along InV m = m .c
 
-pub in-at : (p : Parameter) {k : Depths} {b : Box} {m : Place} → In k b m → Between (m .q) (at p k) (at p b) (along p m)
+in-at : (p : Parameter) {k : Depths} {b : Box} {m : Place} → In k b m → Between (m .q) (at p k) (at p b) (along p m)
 in-at InT w = w .t
 in-at InU w = w .u
 in-at InV w = w .v
 
-pub in-on : (p : Parameter) (f : ℕ → ℕ) {k : Depths} {b : Box} {m : Place} → In k b m → Between (m .q) (at p k + 1) (f (at p b)) (along p m) → In (deeper p k) (on p f b) m
+in-on : (p : Parameter) (f : ℕ → ℕ) {k : Depths} {b : Box} {m : Place} → In k b m → Between (m .q) (at p k + 1) (f (at p b)) (along p m) → In (deeper p k) (on p f b) m
 in-on InT f w x = record { t = x; u = w .u; v = w .v }
 in-on InU f w x = record { t = w .t; u = x; v = w .v }
 in-on InV f w x = record { t = w .t; u = w .u; v = x }
@@ -72,7 +72,7 @@ grid-on InT f g x = record { t = x; u = g .u; v = g .v }
 grid-on InU f g x = record { t = g .t; u = x; v = g .v }
 grid-on InV f g x = record { t = g .t; u = g .u; v = x }
 
-twice : (k : ℕ) → 2 ^ (k + 1) ≡ 2 ^ k * 2
+pub twice : (k : ℕ) → 2 ^ (k + 1) ≡ 2 ^ k * 2
 twice k = ap (λ (n : ℕ). 2 ^ n) (one-more k) ∙ pow-suc 2 k
   where
     one-more : (k : ℕ) → k + 1 ≡ suc k

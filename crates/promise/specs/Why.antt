@@ -1,6 +1,6 @@
--- What naming a box promises to one who asks why a point was ruled out (document 02, R-8). `whySearch` stands in rules/specs/Why.antt, `check`, `split` and
--- `halves` in rules/specs/Search.antt. proofs/Why.antt proves what is stated here.
-use Prim.Native.Nat.{ℕ, suc, _+_, _*_, _-_, _≤_, _<_}
+-- What naming a box promises to one who asks why a point was ruled out (document 02, R-8). Read `whySearch` in rules/specs/Why.antt and `check`, `split` and `halves` in
+-- rules/specs/Search.antt, then this page; no more is needed. proofs/Why proves what is stated here.
+use Prim.Native.Nat.{ℕ, zero, suc, _+_, _*_, _-_, _^_, _≤_, _<_}
 use mathlib.Core.Path.{_≡_}
 use mathlib.Core.Logic.{_↔_, _⊎_}
 use mathlib.Core.Bool.{false}
@@ -15,7 +15,8 @@ use Rattle.rules.specs.declared.Corner.{Corner}
 use Rattle.rules.specs.declared.Told.{Told}
 use Rattle.rules.specs.declared.Axis.{Axis}
 use Rattle.rules.specs.declared.Side.{Side}
-use Rattle.rules.specs.declared.Side.the-variants.{Above, Below}
+use Rattle.rules.specs.declared.Side.the-variants.{Below, Above}
+use Rattle.rules.specs.declared.Stop.{Stop}
 use Rattle.rules.specs.declared.Reason.{Reason}
 use Rattle.rules.specs.declared.Ruling.the-variants.{Discarded, Refused}
 use Rattle.rules.specs.Numbers.{parts}
@@ -23,7 +24,7 @@ use Rattle.rules.specs.Gap.{Place, OnBodies}
 use Rattle.rules.specs.Answers.{told, hasMoment}
 use Rattle.rules.specs.Refusals.{searchRefusal}
 use Rattle.rules.specs.Search.{Query, query, Box, Depths, low, high, survives, Checked, answered, through, check, split, deeper, halves, origin, levels, run, search}
-use Rattle.rules.specs.Why.{whyRefusal, whySearch}
+use Rattle.rules.specs.Why.{wholeDomain, halfOf, whyRefusal, whySearch}
 
 -- ---- places and boxes
 
@@ -42,12 +43,32 @@ pub record In (k : Depths) (box : Box) (m : Place) : Type 0 where
 abbrev pub pointed : Three → Place
 pointed at = record { q = parts; a = at .t; b = at .u; c = at .v }
 
+-- ---- "from the whole domain down, one level at a time, always into the half that holds the point"
+
+-- so many levels down from a box
+unfoldable pub down : Query → Three → ℕ → Stop → Stop
+down q at zero s = s
+down q at (suc n) s = down q at n (halfOf q at s)
+
+-- a point, in parts, in a cell of the grid; "the upper one on a boundary, except at 1": it is at the cell's high end only at 1
+pub record Held (k i at : ℕ) : Type 0 where
+  pub depth : k ≤ 20
+  pub grid : i < 2 ^ k
+  pub from : low k i ≤ at
+  pub to : at ≤ high k i
+  pub upper : at ≡ high k i → at ≡ parts
+
+pub record Holds (at : Three) (s : Stop) : Type 0 where
+  pub t : Held (s .depths .t) (s .index .t) (at .t)
+  pub u : Held (s .depths .u) (s .index .u) (at .u)
+  pub v : Held (s .depths .v) (s .index .v) (at .v)
+
+-- ---- "the search discarded it"
+
 -- some box of a list is such
 abbrev pub Some : (Box → Type 0) → List Box → Type 0
 Some P [] = ⊥
 Some P (b ∷ bs) = P b ⊎ Some P bs
-
--- ---- "the search discarded it"
 
 -- the levels that a search comes to, by the search's own steps: with at most so many levels from it on, the depths, the boxes, the recorded corner and the count
 -- with which it begins
@@ -82,18 +103,27 @@ pub record WasDiscarded (q : Query) (k : Depths) (box : Box) : Type 0 where
 
 -- F on the axis is beyond the separation on that side
 abbrev pub Beyond : Query → Axis → Side → Place → Type 0
-Beyond q axis Above m = pos (q .separation axis * (m .q * m .q)) <ℤ q .gap axis (m .q) (m .a) (m .b) (m .c)
 Beyond q axis Below m = q .gap axis (m .q) (m .a) (m .b) (m .c) <ℤ negℤ (pos (q .separation axis * (m .q * m .q)))
+Beyond q axis Above m = pos (q .separation axis * (m .q * m .q)) <ℤ q .gap axis (m .q) (m .a) (m .b) (m .c)
 
 -- "The point is in that box, the search discarded it, and over all of the box F on that axis is beyond the separation on that side."
 pub record Named (q : Query) (at : Three) (x : Reason) : Type 0 where
-  pub level : x .level ≡ x .depths .t + x .depths .u + x .depths .v
   pub holds : In (x .depths) (x .index) (pointed at)
   pub discarded : WasDiscarded q (x .depths) (x .index)
   pub beyond : (m : Place) → 0 < m .q → In (x .depths) (x .index) m → Beyond q (x .axis) (x .side) m
 
 abbrev pub Names-discarded : Type 0
 Names-discarded = (r : Record) (words : ℕ) (at : Three) (x : Reason) → whySearch r words at ≡ Discarded x → Named (query r words) at x
+
+-- "the first box that was discarded": it is the box on the way at its level, the way goes as it must, and every box before it survived
+pub record First (q : Query) (at : Three) (x : Reason) : Type 0 where
+  pub level : x .level ≡ x .depths .t + x .depths .u + x .depths .v
+  pub on-the-way : down q at (x .level) wholeDomain ≡ record { depths = x .depths; index = x .index }
+  pub held : (n : ℕ) → n ≤ x .level → Holds at (down q at n wholeDomain)
+  pub survived : (n : ℕ) → n < x .level → T (survives q (down q at n wholeDomain .depths) (down q at n wholeDomain .index))
+
+abbrev pub Names-the-first : Type 0
+Names-the-first = (r : Record) (words : ℕ) (at : Three) (x : Reason) → whySearch r words at ≡ Discarded x → First (query r words) at x
 
 -- "before the answered time (or anywhere under CLEAR)"
 abbrev pub NotYet : Told → Three → Type 0

@@ -147,7 +147,7 @@ pub enum BodyAnswer {
     Refused(u32),
 }
 
-// The axes, and the two sides of the separation on one: F above it, or below minus it.
+// The axes, and the two sides of the separation on one: F is below minus it, or above it.
 pub enum Axis {
     X,
     Y,
@@ -155,8 +155,8 @@ pub enum Axis {
 }
 
 pub enum Side {
-    Above,
     Below,
+    Above,
 }
 
 // Where a box is beyond the separation: nowhere, or over all of it on an axis and a side.
@@ -165,7 +165,13 @@ pub enum Miss {
     On(Axis, Side),
 }
 
-// Why a point is ruled out (document 02, R-8): the level, the depths and the index of a discarded box, and the axis and side that discard it.
+// A stop on the way down to a point: a box at its depths.
+pub struct Stop {
+    pub depths: Three,
+    pub index: Three,
+}
+
+// Why a point is ruled out: the level, the depths and the index of a discarded box, and the axis and side that discard it.
 pub struct Reason {
     pub level: u64,
     pub depths: Three,

@@ -1,69 +1,36 @@
--- The way down to a point: the half that holds it is a box of the next level, so that the descent ends at a box that the search discarded.
+-- The descent: the half that holds the point is a box of the search's next level, so that it ends at a box that the search discarded.
 use mathlib.Core.Path.{_≡_, refl, sym, ap, subst}
 use mathlib.Core.Logic.{inl, inr}
 use mathlib.Core.Bool.{Bool, true, false, not, cond}
 use mathlib.Core.List.{List, [], _∷_, map}
 use Prim.Native.Nat.{ℕ, zero, suc, _+_, _*_, _≤_, _<_}
-use native.Mathlib.Nat.{le-trans, le-of-lt, mul-le-mul-left, le-of-mul-le-mul-left}
+use native.Mathlib.Nat.{le-trans}
 use native.Mathlib.Omega.{arith}
 use lib.ListN.{length}
-use lib.Dec.{T, leb, leb→le, nleb→lt, ltb→lt}
+use lib.Dec.{T, leb, ltb→lt}
 use Rattle.rules.specs.declared.Three.{Three}
 use Rattle.rules.specs.declared.Corner.{Corner}
 use Rattle.rules.specs.declared.Answer.{Answer}
 use Rattle.rules.specs.declared.Parameter.{Parameter}
-use Rattle.rules.specs.declared.Parameter.the-variants.{InT, InU, InV}
 use Rattle.rules.specs.declared.Miss.{Miss}
 use Rattle.rules.specs.declared.Miss.the-variants.{Nowhere, On}
 use Rattle.rules.specs.declared.Ruling.{Ruling}
 use Rattle.rules.specs.declared.Ruling.the-variants.{Discarded, Refused}
-use Rattle.rules.specs.Numbers.{parts}
-use Rattle.rules.specs.Search.{Query, Box, Depths, low, survives, Checked, check, those, split, deeper, lowHalf, highHalf, inside, halves, ifRoom, afterLevel, levels, origin, run}
-use Rattle.rules.specs.Why.{goesUp, holding, missed, ruledBy, descend, isBefore}
-use Rattle.promise.specs.Why.{Between, In, pointed, Some, Comes, whole, next, Named}
+use Rattle.rules.specs.Search.{Query, Box, Depths, survives, Checked, check, those, split, deeper, lowHalf, highHalf, inside, halves, ifRoom, afterLevel, levels, origin, run}
+use Rattle.rules.specs.Why.{isBefore, goesUp, holding, missed, wholeDomain, halfOf, nameOr, descend}
+use Rattle.promise.specs.Why.{pointed, Some, Comes, whole, next, Holds, Named}
 use Rattle.promise.proofs.Box.{HasKernel}
 use Rattle.promise.proofs.Lists.{Ascending, those-some, those-ascending, merge-some}
 use Rattle.promise.proofs.Split.{Shallow, at as of, split-open, deeper-shallow, sum, deeper-sum}
 use Rattle.promise.proofs.Domain.{Domain, in-inside}
-use Rattle.promise.proofs.Halves.{double, high-double, along, in-at, in-on, halves-ascending}
+use Rattle.promise.proofs.Halves.{halves-ascending}
 use Rattle.promise.proofs.First.{check-first}
 use Rattle.promise.proofs.Why.Beyond.{Says, says, fails-lost, fails-beyond}
+use Rattle.promise.proofs.Why.Way.{stop, holding-holds, holds-in, whole-holds}
 use Rattle.promise.proofs.Why.Reached.{Among, Ahead, ahead-of, reached, Goes, goes}
 
 module _ (S : Query) (at : Three) where
-  -- ---- the half that holds the point
-  up-low : (p : Parameter) (k : Depths) (b : Box) → T (goesUp p k b at) → low (of p k + 1) (2 * of p b + 1) ≤ along p (pointed at)
-  unfolding goesUp
-  up-low InT k b t = leb→le _ _ t
-  up-low InU k b t = leb→le _ _ t
-  up-low InV k b t = leb→le _ _ t
-
-  down-low : (p : Parameter) (k : Depths) (b : Box) → T (not (goesUp p k b at)) → along p (pointed at) < low (of p k + 1) (2 * of p b + 1)
-  unfolding goesUp
-  down-low InT k b t = nleb→lt _ _ t
-  down-low InU k b t = nleb→lt _ _ t
-  down-low InV k b t = nleb→lt _ _ t
-
-  pub holding-in : (p : Parameter) (k : Depths) (b : Box) → of p k < 20 → In k b (pointed at) → In (deeper p k) (holding p k b at) (pointed at)
-  unfolding holding
-  holding-in p k b h w = go (goesUp p k b at) (up-low p k b) (down-low p k b)
-    where
-      a : ℕ
-      a = along p (pointed at)
-
-      go : (c : Bool) → (T c → low (of p k + 1) (2 * of p b + 1) ≤ a) → (T (not c) → a < low (of p k + 1) (2 * of p b + 1))
-          → In (deeper p k) (cond c (highHalf p b) (lowHalf p b)) (pointed at)
-      go true f g =
-          in-on p (λ i. 2 * i + 1) w
-          (record { above = mul-le-mul-left parts (f tt); under = subst (λ (n : ℕ). parts * a ≤ parts * n) (high-double (of p k) (of p b) h) (in-at p w .under) })
-      go false f g =
-          in-on p (λ i. 2 * i) w
-          (record { above = subst (λ (n : ℕ). parts * n ≤ parts * a) (double (of p k) (of p b) h) (in-at p w .above); under = mul-le-mul-left parts (le-of-lt (g tt)) })
-
-  starts : (k : Depths) (b : Box) → In k b (pointed at) → low (k .t) (b .t) ≤ at .t
-  starts k b w = le-of-mul-le-mul-left (w .t .above) (omega arith)
-
-  -- it is a box of the next level
+  -- ---- the half that holds the point is a box of the next level
   map-among : (g : Box → Box) (keeps : Box → Bool) (b : Box) (l : List Box) → T (keeps (g b)) → Among b l → Some (λ x. (x ≡ g b) × T (keeps x)) (map g l)
   map-among g keeps b (x ∷ xs) t (inl e) = inl (ap g e, subst (λ (y : Box). T (keeps (g y))) (sym e) t)
   map-among g keeps b (x ∷ xs) t (inr w) = inr (map-among g keeps b xs t w)
@@ -86,7 +53,7 @@ module _ (S : Query) (at : Three) where
     pub shallow : Shallow S k
     pub ascending : Ascending boxes
     pub among : Among b boxes
-    pub holds : In k b (pointed at)
+    pub holds : Holds at (stop k b)
     pub recorded : c .t ≤ at .t
     pub fuel : 3 * S .deepest ≤ sum k + more
     pub ahead : T (isBefore (levels (suc more) S k boxes c n) (at .t))
@@ -102,12 +69,11 @@ module _ (S : Query) (at : Three) where
       in-time = ahead-of S at k (levels more S) (check S k boxes false c n) (W .ahead)
 
       -- it is discarded
-      ends : (m : Miss) → Says S k b m → (rest : Ruling) → (T (survives S k b) → Rules rest) → Rules (ruledBy m k b rest)
+      ends : (m : Miss) → Says S k b m → (rest : Ruling) → (T (survives S k b) → Rules rest) → Rules (nameOr m (stop k b) rest)
       ends Nowhere e rest f = f e
       ends (On axis side) e rest f =
           record {
-            level = refl;
-            holds = W .holds;
+            holds = holds-in at (W .holds);
             discarded =
                 record {
                   more = more;
@@ -115,7 +81,7 @@ module _ (S : Query) (at : Three) where
                   corner = c;
                   count = n;
                   comes = W .comes;
-                  checked = reached S at k b (starts k b (W .holds)) boxes false c n (W .ascending) (W .among) (W .recorded) in-time;
+                  checked = reached S at k b (W .holds .t .from) boxes false c n (W .ascending) (W .among) (W .recorded) in-time;
                   lost = fails-lost S k b axis side e;
                 };
             beyond = fails-beyond S k b H axis side e;
@@ -123,9 +89,9 @@ module _ (S : Query) (at : Three) where
 
       -- or it survives, and the level goes on
       module _ (alive : T (survives S k b)) where
-        on : Goes S at k b (starts k b (W .holds)) (check S k boxes false c n)
+        on : Goes S at k b (W .holds .t .from) (check S k boxes false c n)
         on =
-            goes S at k b (starts k b (W .holds)) c n (length boxes) (those (survives S k) boxes) (check S k boxes false c n) (check-first S k boxes c n)
+            goes S at k b (W .holds .t .from) c n (length boxes) (those (survives S k) boxes) (check S k boxes false c n) (check-first S k boxes c n)
             (those-ascending (survives S k) boxes (W .ascending))
             (those-some (λ x. x ≡ b) (survives S k) boxes (alive-too boxes (W .among)))
             (W .recorded) in-time
@@ -170,29 +136,26 @@ module _ (S : Query) (at : Three) where
                   (subst (λ (m : ℕ). Comes S (suc m) k boxes c n) e (W .comes)) (on .is) (after less e .0);
               shallow = deeper-still;
               ascending = halves-ascending S k p (on .first ∷ on .rest) (on .ascending);
-              among = holding-among p k b (on .first ∷ on .rest) (on .among) (in-inside S (deeper p k) (holding p k b at) (pointed at) domain held);
+              among = holding-among p k b (on .first ∷ on .rest) (on .among) (in-inside S (deeper p k) (holding p k b at) (pointed at) domain (holds-in at held));
               holds = held;
               recorded = on .recorded;
               fuel = omega (arith, W .fuel, deeper-sum p k);
               ahead = after less e .1;
             }
           where
-            held : In (deeper p k) (holding p k b at) (pointed at)
-            held = holding-in p k b (le-trans open' deep) (W .holds)
+            held : Holds at (stop (deeper p k) (holding p k b at))
+            held = holding-holds at p k b (le-trans open' deep) (W .holds)
 
-    pub descend-rules : (more : ℕ) (k : Depths) (b : Box) (boxes : List Box) (c : Corner) (n : ℕ) → Way more k b boxes c n → Rules (descend more S at k b)
+    pub descend-rules : (more : ℕ) (k : Depths) (b : Box) (boxes : List Box) (c : Corner) (n : ℕ) → Way more k b boxes c n → Rules (descend more S at (stop k b))
     unfolding descend
     descend-rules zero k b boxes c n W = ends zero k b boxes c n W (missed S k b) (says S k b) (Refused 0) (λ t. absurd (not-last zero k b boxes c n W t refl))
     descend-rules (suc more) k b boxes c n W =
-        ends (suc more) k b boxes c n W (missed S k b) (says S k b) (descend more S at (deeper (split S k) k) (holding (split S k) k b at))
+        ends (suc more) k b boxes c n W (missed S k b) (says S k b) (descend more S at (halfOf S at (stop k b)))
         (λ t. descend-rules more (deeper (split S k) k) (holding (split S k) k b at) (new (suc more) k b boxes c n W t) (on (suc more) k b boxes c n W t .corner) (on (suc more) k b boxes c n W t .count)
         (below (suc more) k b boxes c n W t more refl))
 
     -- ---- from the whole domain
-    whole-between : (a : ℕ) → a ≤ parts → Between parts 0 0 a
-    whole-between a h = record { above = omega arith; under = omega arith }
-
-    pub run-rules : T (isBefore (run S) (at .t)) → Rules (descend 60 S at origin origin)
+    pub run-rules : T (isBefore (run S) (at .t)) → Rules (descend 60 S at wholeDomain)
     unfolding run
     run-rules t =
         descend-rules 60 origin origin (origin ∷ []) (record { t = 0; u = 0; v = 0; excess = 0 }) 0
@@ -201,7 +164,7 @@ module _ (S : Query) (at : Three) where
           shallow = record { t = omega arith; u = omega arith; v = omega arith };
           ascending = (tt, tt);
           among = inl refl;
-          holds = record { t = whole-between (at .t) (domain .t); u = whole-between (at .u) (domain .u); v = whole-between (at .v) (domain .v) };
+          holds = whole-holds at (domain .t) (domain .u) (domain .v);
           recorded = omega arith;
           fuel = omega (arith, deep);
           ahead = t;

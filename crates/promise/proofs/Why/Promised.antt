@@ -1,29 +1,29 @@
 -- What specs/Why.antt states, of every record, number of words and point.
 use mathlib.Core.Path.{_≡_, refl, sym, ap, _∙_, subst}
-use mathlib.Core.Logic.{inl, inr}
+use mathlib.Core.Logic.{_⊎_, inl, inr, ⊎-map}
 use mathlib.Core.Bool.{Bool, true, false, not, cond, _&&_, _||_}
 use Prim.Native.Nat.{ℕ, zero, suc, _+_, _<_}
 use native.Mathlib.Omega.{arith}
 use lib.ListN.{length}
-use lib.Dec.{T, leb, leb→le, le→leb, ltb→lt, lt→ltb}
+use lib.Dec.{T, leb, ltb, eqb, leb→le, le→leb, ltb→lt, lt→ltb, eqb→eq}
 use Rattle.rules.specs.declared.Record.{Record}
 use Rattle.rules.specs.declared.Three.{Three}
 use Rattle.rules.specs.declared.Corner.{Corner}
 use Rattle.rules.specs.declared.Answer.{Answer}
-use Rattle.rules.specs.declared.Answer.the-variants.{Met, Clear, Spent, Room, Floor, Refused as RefusedAnswer}
 use Rattle.rules.specs.declared.Reason.{Reason}
 use Rattle.rules.specs.declared.Ruling.{Ruling}
 use Rattle.rules.specs.declared.Ruling.the-variants.{Discarded, Refused}
 use Rattle.rules.specs.Numbers.{parts}
 use Rattle.rules.specs.Gap.{OnBodies, isVertexFace}
-use Rattle.rules.specs.Answers.{told}
+use Rattle.rules.specs.Answers.{told, hasMoment}
 use Rattle.rules.specs.Refusals.{first, orElse, searchRefusal}
-use Rattle.rules.specs.Search.{query, Checked, afterLevel, ifRoom, levels, run, search, unless, origin}
-use Rattle.rules.specs.Why.{inDomain, isBefore, whyRefusal, unlessWhy, whySearch, descend}
-use Rattle.promise.specs.Why.{pointed, whole, next, Own-levels, Named, Names-discarded, NotYet, Named-exactly, Why-refused-exactly}
+use Rattle.rules.specs.Search.{query, Checked, afterLevel, ifRoom, levels, run, search, unless}
+use Rattle.rules.specs.Why.{inDomain, isBefore, fromWhole, whyRefusal, unlessWhy, whySearch}
+use Rattle.promise.specs.Why.{pointed, whole, next, Own-levels, Named, Names-discarded, First, Names-the-first, NotYet, Named-exactly, Why-refused-exactly}
 use Rattle.promise.proofs.Survive.{and-both, and-intro}
 use Rattle.promise.proofs.Domain.{Domain, on-bodies}
 use Rattle.promise.proofs.Accepted.{record-kernel}
+use Rattle.promise.proofs.Why.Way.{whole-holds, named-first}
 use Rattle.promise.proofs.Why.Down.{Rules, run-rules}
 
 -- ---- the levels that a search comes to are its own
@@ -42,7 +42,7 @@ own-levels q m' k' new d' i' (next m k boxes c n i d box rest w e t) =
 
 -- ---- where nothing is refused
 module _ (r : Record) (words : ℕ) (at : Three) where
-  ruled : searchRefusal r words ≡ 0 → Domain (query r words) (pointed at) → T (isBefore (search r words) (at .t)) → Rules (query r words) at (descend 60 (query r words) at origin origin)
+  ruled : searchRefusal r words ≡ 0 → Domain (query r words) (pointed at) → T (isBefore (search r words) (at .t)) → Rules (query r words) at (fromWhole r words at)
   unfolding search unless
   ruled e d t =
       run-rules (query r words) at (record-kernel r words) (omega arith) d
@@ -92,26 +92,23 @@ module _ (r : Record) (words : ℕ) (at : Three) where
 
   to-before : (a : Answer) → NotYet (told a) at → T (isBefore a (at .t))
   unfolding isBefore
-  to-before (Met t u v excess count) (inr h) = lt→ltb _ _ (h .1)
-  to-before (Met t u v excess count) (inl e) = absurd (omega arith)
-  to-before (Clear count) h = tt
-  to-before (Spent t u v excess count) (inr h) = lt→ltb _ _ (h .1)
-  to-before (Spent t u v excess count) (inl e) = absurd (omega arith)
-  to-before (Room t u v excess count) (inr h) = lt→ltb _ _ (h .1)
-  to-before (Room t u v excess count) (inl e) = absurd (omega arith)
-  to-before (Floor t u v excess count) (inr h) = lt→ltb _ _ (h .1)
-  to-before (Floor t u v excess count) (inl e) = absurd (omega arith)
-  to-before (RefusedAnswer n) (inr h) = h .0
-  to-before (RefusedAnswer n) (inl e) = absurd (omega arith)
+  to-before a w = or-intro (eqb (told a .word) 2) (hasMoment (told a) && ltb (at .t) (told a .t)) (⊎-map (λ e. rw e tt) (λ h. and-intro (hasMoment (told a)) _ (h .0) (lt→ltb _ _ (h .1))) w)
+    where
+      or-intro : (x y : Bool) → T x ⊎ T y → T (x || y)
+      or-intro true y w = tt
+      or-intro false y (inl t) = absurd t
+      or-intro false y (inr t) = t
 
   from-before : (a : Answer) → T (isBefore a (at .t)) → NotYet (told a) at
   unfolding isBefore
-  from-before (Met t u v excess count) h = inr (tt, ltb→lt _ _ h)
-  from-before (Clear count) h = inl refl
-  from-before (Spent t u v excess count) h = inr (tt, ltb→lt _ _ h)
-  from-before (Room t u v excess count) h = inr (tt, ltb→lt _ _ h)
-  from-before (Floor t u v excess count) h = inr (tt, ltb→lt _ _ h)
-  from-before (RefusedAnswer n) h = absurd h
+  from-before a t = ⊎-map (eqb→eq _ _) late (or-either (eqb (told a .word) 2) (hasMoment (told a) && ltb (at .t) (told a .t)) t)
+    where
+      or-either : (x y : Bool) → T (x || y) → T x ⊎ T y
+      or-either true y t = inl tt
+      or-either false y t = inr t
+
+      late : T (hasMoment (told a) && ltb (at .t) (told a .t)) → T (hasMoment (told a)) × (at .t < told a .t)
+      late h = let b = and-both (hasMoment (told a)) (ltb (at .t) (told a .t)) h in (b .0, ltb→lt _ _ (b .1))
 
   -- ---- the refusals, by the three tests
   abbrev refusal : ℕ → Bool → Bool → ℕ
@@ -140,7 +137,7 @@ module _ (r : Record) (words : ℕ) (at : Three) where
       go (suc n) x y e s t = absurd (omega arith)
 
   -- so what is not refused has its box
-  rules : whyRefusal r words at ≡ 0 → Rules (query r words) at (descend 60 (query r words) at origin origin)
+  rules : whyRefusal r words at ≡ 0 → Rules (query r words) at (fromWhole r words at)
   rules e = let n = none-due e in ruled (n .0) (to-domain (n .1)) (n .2)
 
 -- ---- the promises
@@ -148,14 +145,22 @@ pub names-discarded : Names-discarded
 unfolding whySearch unlessWhy
 names-discarded r words at x e = go (whyRefusal r words at) refl e
   where
-    go : (n : ℕ) → whyRefusal r words at ≡ n → unlessWhy n (descend 60 (query r words) at origin origin) ≡ Discarded x → Named (query r words) at x
+    go : (n : ℕ) → whyRefusal r words at ≡ n → unlessWhy n (fromWhole r words at) ≡ Discarded x → Named (query r words) at x
     go zero f e = subst (Rules (query r words) at) e (rules r words at f)
+    go (suc n) f e = let z : _≡_ {A = ℕ} 0 1 = cc in absurd (omega arith)
+
+pub names-the-first : Names-the-first
+unfolding whySearch unlessWhy
+names-the-first r words at x e = go (whyRefusal r words at) refl e
+  where
+    go : (n : ℕ) → whyRefusal r words at ≡ n → unlessWhy n (fromWhole r words at) ≡ Discarded x → First (query r words) at x
+    go zero f e = let d = to-domain r words at (none-due r words at f .1) in named-first at (query r words) x refl (whole-holds at (d .t) (d .u) (d .v)) e
     go (suc n) f e = let z : _≡_ {A = ℕ} 0 1 = cc in absurd (omega arith)
 
 -- what is not refused has its box
 pub has-box : (r : Record) (words : ℕ) (at : Three) → whyRefusal r words at ≡ 0 → (x : Reason) × (whySearch r words at ≡ Discarded x)
 unfolding whySearch unlessWhy
-has-box r words at free = go (whyRefusal r words at) free (descend 60 (query r words) at origin origin) (rules r words at free)
+has-box r words at free = go (whyRefusal r words at) free (fromWhole r words at) (rules r words at free)
   where
     go : (n : ℕ) → n ≡ 0 → (y : Ruling) → Rules (query r words) at y → (x : Reason) × (unlessWhy n y ≡ Discarded x)
     go zero f (Discarded x) g = (x, refl)
@@ -167,7 +172,7 @@ unfolding whySearch unlessWhy
 named-exactly r words at =
     (λ p. given (whyRefusal r words at) refl (p .0) (p .1), λ p. has-box r words at (due-none r words at (p .0) (from-domain r words at (p .1)) (to-before r words at (search r words) (p .2))))
   where
-    given : (n : ℕ) → whyRefusal r words at ≡ n → (x : Reason) → unlessWhy n (descend 60 (query r words) at origin origin) ≡ Discarded x
+    given : (n : ℕ) → whyRefusal r words at ≡ n → (x : Reason) → unlessWhy n (fromWhole r words at) ≡ Discarded x
         → (searchRefusal r words ≡ 0) × OnBodies r (pointed at) × NotYet (told (search r words)) at
     given zero e x f = let h = none-due r words at e in (h .0, on-bodies r words (to-domain r words at (h .1)), from-before r words at (search r words) (h .2))
     given (suc n) e x f = let z : _≡_ {A = ℕ} 0 1 = cc in absurd (omega arith)
@@ -175,17 +180,17 @@ named-exactly r words at =
 pub why-refused-exactly : Why-refused-exactly
 unfolding whySearch unlessWhy
 why-refused-exactly r words at n =
-    (λ e. there (whyRefusal r words at) refl e, λ p. ap (λ (k : ℕ). unlessWhy k (descend 60 (query r words) at origin origin)) (p .1) ∙ back n (p .0))
+    (λ e. there (whyRefusal r words at) refl e, λ p. ap (λ (k : ℕ). unlessWhy k (fromWhole r words at)) (p .1) ∙ back n (p .0))
   where
     never : (y : Ruling) → Rules (query r words) at y → y ≡ Refused n → ⊥
     never y g f = subst (Rules (query r words) at) f g
 
-    there : (k : ℕ) → whyRefusal r words at ≡ k → unlessWhy k (descend 60 (query r words) at origin origin) ≡ Refused n → (0 < n) × (whyRefusal r words at ≡ n)
-    there zero e f = absurd (never (descend 60 (query r words) at origin origin) (rules r words at e) f)
+    there : (k : ℕ) → whyRefusal r words at ≡ k → unlessWhy k (fromWhole r words at) ≡ Refused n → (0 < n) × (whyRefusal r words at ≡ n)
+    there zero e f = absurd (never (fromWhole r words at) (rules r words at e) f)
     there (suc k) e f =
         let g : suc k ≡ n = cc in
         (omega arith, e ∙ g)
 
-    back : (k : ℕ) → 0 < k → unlessWhy k (descend 60 (query r words) at origin origin) ≡ Refused k
+    back : (k : ℕ) → 0 < k → unlessWhy k (fromWhole r words at) ≡ Refused k
     back zero h = absurd (omega arith)
     back (suc k) h = refl

@@ -1,18 +1,75 @@
--- The promises of R-8 say enough: a box that the search did not come to was not discarded, though it would not survive; and a worked row has all that is promised.
+-- The promises of R-8 say enough: a box that the search did not come to was not discarded, though it would not survive; no box further down than the first may be named; on a
+-- boundary only the upper half holds the point, and at 1 only the last.
 use mathlib.Core.Path.{_≡_, refl, sym, ap, _∙_, subst}
 use mathlib.Core.Logic.{inl, inr}
 use mathlib.Core.Bool.{Bool, true, false, cond}
 use mathlib.Core.List.{List, [], _∷_}
-use Prim.Native.Nat.{ℕ, zero, suc, _+_, _-_}
+use Prim.Native.Nat.{ℕ, zero, suc, _+_, _*_, _-_, _^_, _≤_, _<_}
+use native.Mathlib.Nat.{le-trans, add-mul, one-mul, mul-le-mul-right}
 use native.Mathlib.Omega.{arith}
+use lib.IntN.{pos}
+use lib.Pow.{pow-add, pow-pos}
 use lib.ListN.{length, take}
 use lib.Dec.{T, leb}
+use Rattle.rules.specs.declared.Three.{Three}
 use Rattle.rules.specs.declared.Corner.{Corner}
+use Rattle.rules.specs.declared.Reason.{Reason}
+use Rattle.rules.specs.Numbers.{parts}
 use Rattle.rules.specs.Gap.{moving, vertexFace, edgeEdge, gapOn, negateFrom, sided}
-use Rattle.rules.specs.Search.{Query, query, Box, Depths, Checked, answered, through, check, split, deeper, halves, origin, merge, takeIn, notAfter, those, inside, winner, spread, oneBox, near, firstSurvivor, corner, excess, width, survives, least, greatest, overCorners}
-use Rattle.rules.specs.Berth.{asked, P-T}
-use Rattle.promise.specs.Why.{Some, Comes, whole, next, counted, WasDiscarded}
+use Rattle.rules.specs.Search.{Query, query, Box, Depths, side, low, high, Checked, answered, through, check, split, deeper, halves, origin, merge, takeIn, notAfter, those, inside, winner, spread, oneBox, near, firstSurvivor, corner, excess, width, survives, least, greatest, overCorners}
+use Rattle.rules.specs.Berth.{asked, minus, P-T}
+use Rattle.rules.specs.WhyExamples.{beside}
+use Rattle.promise.specs.Why.{down, Held, Some, Comes, whole, next, counted, WasDiscarded, First}
 use Rattle.promise.proofs.Split.{sum, deeper-sum}
+
+-- ---- a boundary: 524288 parts are the middle, where box 1 of depth 1 begins
+pub not-lower : Held 1 0 524288 → ⊥
+not-lower w = omega (arith, w .upper refl)
+
+pub not-past-1 : Held 1 2 1048576 → ⊥
+not-past-1 w = omega (arith, w .grid)
+
+pub last-at-1 : Held 1 1 1048576
+last-at-1 = record { depth = omega arith; grid = omega arith; from = omega arith; to = omega arith; upper = λ e. refl }
+
+-- no two cells of a depth hold a point so
+not-later : (k i j a : ℕ) → i < j → Held k i a → Held k j a → ⊥
+not-later k i j a h w x = omega (arith, x .from, ends, wide, in-whole, one, w .upper here)
+  where
+    ends : high k i ≤ low k j
+    ends = let g : i + 1 ≤ j = omega arith in mul-le-mul-right (side k) g
+
+    here : a ≡ high k i
+    here = omega (arith, w .to, ends, x .from)
+
+    wide : low k j + side k ≡ high k j
+    wide = sym (add-mul j 1 (side k) ∙ ap (λ (n : ℕ). low k j + n) (one-mul (side k)))
+
+    one : 0 < side k
+    one = pow-pos (20 - k)
+
+    in-whole : high k j ≤ parts
+    in-whole = le-trans (let g : j + 1 ≤ 2 ^ k = omega (arith, x .grid) in mul-le-mul-right (side k) g) (whole-side (sym (pow-add 2 k (20 - k)) ∙ ap (λ (n : ℕ). 2 ^ n) (all k (x .depth))))
+      where
+        all : (k : ℕ) → k ≤ 20 → k + (20 - k) ≡ 20
+        all k h = omega arith
+
+        whole-side : 2 ^ k * side k ≡ 2 ^ 20 → 2 ^ k * side k ≤ parts
+        whole-side e = omega arith
+
+pub held-once : (k i j a : ℕ) → Held k i a → Held k j a → i ≡ j
+held-once k i j a w x =
+    let no : i < j → ⊥ = λ h. not-later k i j a h w x in
+    let none : j < i → ⊥ = λ h. not-later k j i a h x w in
+    omega arith
+
+-- ---- where the whole domain is discarded, nothing below it may be named
+abbrev far : Query
+far = query (beside (minus 101) (pos 0) (pos 7)) 4096
+
+pub not-further : (at : Three) (x : Reason) → 0 < x .level → First far at x → ⊥
+unfolding down survives least greatest overCorners moving vertexFace edgeEdge gapOn negateFrom sided
+not-further at x h f = f .survived 0 h
 
 -- ---- the levels of a search one by one
 pub data Stage : Type 0 where

@@ -1,9 +1,9 @@
 -- The low end of the upper half is worked out without a loss.
 use borrow.Author.Needs.{needs}
 use native.Mathlib.Omega.{arith}
-use Rattle.why.proofs.Going.{few, upper-in}
-use Rattle.why.proofs.is_upper.Statement.{statement}
-use Rattle.why.proofs.is_upper.Tie as tie
+use Rattle.descent.proofs.Going.{few, upper-in}
+use Rattle.descent.proofs.is_upper.Statement.{statement}
+use Rattle.descent.proofs.is_upper.Tie as tie
 
 add-low : tie.Need-add-low
 add-low c = search needs

@@ -3,8 +3,8 @@ use borrow.Author.Needs.{needs}
 use mathlib.Core.Path.{sym, _∙_}
 use Rattle.rules.specs.Why.{holding}
 use Rattle.queue.specs.Grid.{fits-grid}
-use Rattle.why.proofs.holding.Statement.{statement}
-use Rattle.why.proofs.holding.Tie as tie
+use Rattle.descent.proofs.holding.Statement.{statement}
+use Rattle.descent.proofs.holding.Tie as tie
 
 goes-up-requires : tie.Need-goes-up-requires
 goes-up-requires c κs = search needs

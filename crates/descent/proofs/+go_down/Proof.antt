@@ -3,21 +3,22 @@ use borrow.Author.Needs.{needs}
 use mathlib.Core.Path.{sym, ap, _∙_, subst}
 use native.Mathlib.Omega.{arith}
 use Rattle.rules.specs.declared.Ruling.the-variants.{Discarded}
+use Rattle.rules.specs.Why.{descend}
 use Rattle.kernel.specs.Kernel.{asked}
-use Rattle.why.specs.declared.Cell.{Cell}
-use Rattle.why.specs.Way.{Good}
-use Rattle.why.proofs.Going.{good-splits, good-half, from, descend-out, descend-end, descend-on}
+use Rattle.rules.specs.declared.Stop.{Stop}
+use Rattle.descent.specs.Way.{Good}
+use Rattle.descent.proofs.Going.{good-once, good-half, descend-out, descend-end, descend-on}
 use Prim.Native.Nat.{ℕ, _-_, _<_}
 use borrow.Fn.Kinds.{In}
 use borrow.Fn.PlainCycle.{Measures, is, falls, and}
-use Rattle.why.proofs.go_down.Reads as go-down
-use Rattle.why.proofs.go_down.Kinds as go-down-kinds
-use Rattle.why.proofs.+go_down.Lts-go_down as go-down-lts
+use Rattle.descent.proofs.go_down.Reads as go-down
+use Rattle.descent.proofs.go_down.Kinds as go-down-kinds
+use Rattle.descent.proofs.+go_down.Lts-go_down as go-down-lts
 use Rattle.gap.proofs.missed.Reads as missed-reads
-use Rattle.why.proofs.half.Reads as half-reads
-use Rattle.why.proofs.reason.Reads as reason-reads
-use Rattle.why.proofs.+go_down.{statement}
-use Rattle.why.proofs.+go_down.Tie.{close}
+use Rattle.descent.proofs.half.Reads as half-reads
+use Rattle.descent.proofs.reason.Reads as reason-reads
+use Rattle.descent.proofs.+go_down.{statement}
+use Rattle.descent.proofs.+go_down.Tie.{close}
 
 abbrev μ-go-down : Measures 0 go-down-kinds.ps ℕ
 μ-go-down κs a = a .1 .1 .1 .0
@@ -48,7 +49,7 @@ go-down-enum-told t c = search needs
 go-down-half-requires : (t : ℕ) → go-down-lts.Need-half-requires (callees t) (go-down-at t) go-down.Post
 go-down-half-requires t c κs =
     let s = c .before .before .before .before .before .before in
-    good-splits (s .args .p) (s .args .c) (s .args .left) (c .if1 .left) (s .pre .1)
+    good-once (s .args .p) (s .args .s) (s .args .left) (c .if1 .left) (s .pre .1)
 
 go-down-sub-go-down : (t : ℕ) → go-down-lts.Need-sub-go-down (callees t) (go-down-at t) go-down.Post
 go-down-sub-go-down t c = omega (arith, c .before .if1 .left)
@@ -59,7 +60,7 @@ go-down-go-down-requires t c κs =
     let n = s .args .left in
     let less : n - 1 < n = omega (arith, c .before .if1 .left) in (
       subst (λ (j : ℕ). n - 1 < j) (s .pre .0) less,
-      subst (λ (b : Cell). Good (s .args .p) b (n - 1)) (sym (c .half .ensures)) (good-half (s .args .p) (s .args .c) n (c .before .if1 .left) (s .pre .1) (s .args .at)),
+      subst (λ (b : Stop). Good (s .args .p) b (n - 1)) (sym (c .half .ensures)) (good-half (s .args .p) (s .args .s) n (c .before .if1 .left) (s .pre .1) (s .args .at)),
     )
 
 go-down-returns : (t : ℕ) → go-down-lts.Need-returns (callees t) (go-down-at t) go-down.Post
@@ -67,14 +68,14 @@ go-down-returns t c =
     let k = c .before .before in
     let m = k .before .before in
     let a = m .before .before .before .args in
-    ap Discarded (c .reason .ensures) ∙ sym (descend-out (asked (a .p)) (a .at) (a .c) (a .left) _ _ (sym (m .missed .ensures) ∙ k .axis .given .1))
+    ap Discarded (c .reason .ensures) ∙ sym (descend-out (asked (a .p)) (a .at) (a .s) (a .left) _ _ (sym (m .missed .ensures) ∙ k .axis .given .1))
 
 go-down-returns-2 : (t : ℕ) → go-down-lts.Need-returns-2 (callees t) (go-down-at t) go-down.Post
 go-down-returns-2 t c =
     let k = c .before in
     let m = k .before .before in
     let a = m .before .before .before .args in
-    sym (descend-end (asked (a .p)) (a .at) (a .c) (a .left) (c .if1 .taken) (sym (m .missed .ensures) ∙ k .enum-told .given .1))
+    sym (descend-end (asked (a .p)) (a .at) (a .s) (a .left) (c .if1 .taken) (sym (m .missed .ensures) ∙ k .enum-told .given .1))
 
 go-down-returns-3 : (t : ℕ) → go-down-lts.Need-returns-3 (callees t) (go-down-at t) go-down.Post
 go-down-returns-3 t c =
@@ -83,8 +84,8 @@ go-down-returns-3 t c =
     let m = k .before .before in
     let a = m .before .before .before .args in
     c .go-down .ensures
-    ∙ ap (from (asked (a .p)) (a .at) (a .left - 1)) (c .before .half .ensures)
-    ∙ sym (descend-on (asked (a .p)) (a .at) (a .c) (a .left) (e .if1 .left) (sym (m .missed .ensures) ∙ k .enum-told .given .1))
+    ∙ ap (descend (a .left - 1) (asked (a .p)) (a .at)) (c .before .half .ensures)
+    ∙ sym (descend-on (asked (a .p)) (a .at) (a .s) (a .left) (e .if1 .left) (sym (m .missed .ensures) ∙ k .enum-told .given .1))
 
 pub +go-down-spec : {M : Type 1} → statement M
 +go-down-spec = close μ-go-down λ t. go-down-lts.spec (callees t)

@@ -1,8 +1,8 @@
 -- In the parameter that the level is split in.
 use borrow.Author.Needs.{needs}
 use Rattle.rules.specs.Why.{goesUp}
-use Rattle.why.proofs.goes_up.Statement.{statement}
-use Rattle.why.proofs.goes_up.Tie as tie
+use Rattle.descent.proofs.goes_up.Statement.{statement}
+use Rattle.descent.proofs.goes_up.Tie as tie
 
 enum-told : tie.Need-enum-told
 enum-told c = search needs

@@ -1,8 +1,8 @@
 -- By the word that is answered.
 use borrow.Author.Needs.{needs}
 use Rattle.rules.specs.Why.{isBefore}
-use Rattle.why.proofs.is_before.Statement.{statement}
-use Rattle.why.proofs.is_before.Tie as tie
+use Rattle.descent.proofs.is_before.Statement.{statement}
+use Rattle.descent.proofs.is_before.Tie as tie
 
 enum-known-a : tie.Need-enum-known-a
 enum-known-a c = search needs

@@ -2,8 +2,8 @@
 use borrow.Author.Needs.{needs}
 use borrow.Author.Tests.{le-leb, lt-leb, eq-eqb, ne-eqb}
 use Rattle.rules.specs.Why.{inDomain}
-use Rattle.why.proofs.in_domain.Statement.{statement}
-use Rattle.why.proofs.in_domain.Tie as tie
+use Rattle.descent.proofs.in_domain.Statement.{statement}
+use Rattle.descent.proofs.in_domain.Tie as tie
 
 returns : tie.Need-returns
 unfolding inDomain

@@ -1,19 +1,20 @@
 // Why a point was ruled out: from the whole domain down into the half that holds it, to the first box that was discarded.
 ghost use mathlib.Core.Path.{_≡_};
 ghost use Prim.Native.Nat.{_≤_, _<_, _^_};
-ghost use lib.ListN.{length};
+ghost use lib.ListN.{length, replicate};
 ghost use Rattle.rules.specs.Refusals.{searchRefusal};
-ghost use Rattle.rules.specs.Search.{query, origin};
-ghost use Rattle.rules.specs.Why.{inUpper, goesUp, holding, descend, inDomain, isBefore, whySearch, whyQueueAfter};
+ghost use Rattle.rules.specs.Why.{inDomain, isBefore, inUpper, goesUp, holding, halfOf, reasonOf, descend, fromWhole, askRefusal, whyRefusal, whySearch, whyQueueAfter};
 ghost use Rattle.kernel.specs.Kernel.{asked};
 ghost use Rattle.kernel.specs.Ranges.{Shallow};
-ghost use Rattle.why.specs.Way.{Halves, Good, Splits, halfOf, reasonOf};
+ghost use Rattle.descent.specs.Way.{Halves, Good};
 use boxes::high_half;
 use boxes::low_half;
 use gap::cell::PARTS;
 use gap::cell::low;
 use kernel::Pair;
 use queue::clear;
+use refusals::first;
+use refusals::search_refusal;
 use rules::Answer;
 use rules::Axis;
 use rules::Miss;
@@ -22,15 +23,10 @@ use rules::Reason;
 use rules::Record;
 use rules::Ruling;
 use rules::Side;
+use rules::Stop;
 use rules::Three;
 use search::deepen;
 use search::search_accepted;
-
-// A box at its depths.
-pub struct Cell {
-    pub depths: Three,
-    pub index: Three,
-}
 
 // Whether a point, in parts, is inside the domain. A sum is taken only of numbers that are.
 fn in_domain(r: Record, at: Three) -> bool
@@ -122,24 +118,24 @@ fn holding(split: Parameter, k: Three, b: Three, at: Three) -> Three
 }
 
 // The same at its depths, a level further down.
-fn half(p: Pair, at: Three, c: Cell) -> Cell
-    requires { ⌜ Splits p c ⌝ }
-    ensures { λ r. ⌜ r ≡ halfOf (asked p) at c ⌝ }
+fn half(p: Pair, at: Three, s: Stop) -> Stop
+    requires { ⌜ Good p s 1 ⌝ }
+    ensures { λ r. ⌜ r ≡ halfOf (asked p) at s ⌝ }
 {
-    let k = c.depths;
-    let i = c.index;
+    let k = s.depths;
+    let i = s.index;
     let split = gap::split(p, k);
     let depths = deepen(split, k);
     let index = holding(split, k, i, at);
-    Cell { depths, index }
+    Stop { depths, index }
 }
 
-fn reason(c: Cell, axis: Axis, side: Side) -> Reason
-    requires { ⌜ Shallow (c .depths) ⌝ }
-    ensures { λ r. ⌜ r ≡ reasonOf c axis side ⌝ }
+fn reason(s: Stop, axis: Axis, side: Side) -> Reason
+    requires { ⌜ Shallow (s .depths) ⌝ }
+    ensures { λ r. ⌜ r ≡ reasonOf s axis side ⌝ }
 {
-    let k = c.depths;
-    let i = c.index;
+    let k = s.depths;
+    let i = s.index;
     let level = k.t + k.u + k.v;
     Reason {
         level,
@@ -151,53 +147,69 @@ fn reason(c: Cell, axis: Axis, side: Side) -> Reason
 }
 
 // With at most `left` levels more: the number that falls. Everything that is not the call of itself stands outside.
-fn go_down(p: Pair, at: Three, c: Cell, left: u64) -> Ruling
-    requires { ⌜ Good p c left ⌝ }
-    ensures { λ r. ⌜ r ≡ descend left (asked p) at (c .depths) (c .index) ⌝ }
+fn go_down(p: Pair, at: Three, s: Stop, left: u64) -> Ruling
+    requires { ⌜ Good p s left ⌝ }
+    ensures { λ r. ⌜ r ≡ descend left (asked p) at s ⌝ }
 {
-    let k = c.depths;
-    let i = c.index;
+    let k = s.depths;
+    let i = s.index;
     match gap::missed(p, k, i) {
-        Miss::On(axis, side) => Ruling::Discarded(reason(c, axis, side)),
+        Miss::On(axis, side) => Ruling::Discarded(reason(s, axis, side)),
         Miss::Nowhere => {
             if left == 0 {
                 Ruling::Refused(0)
             } else {
-                go_down(p, at, half(p, at, c), left - 1)
+                go_down(p, at, half(p, at, s), left - 1)
             }
         }
     }
 }
 
-// From the whole domain.
 fn from_whole(r: Record, words: usize, at: Three) -> Ruling
     requires { ⌜ searchRefusal r words ≡ 0 ⌝ }
-    ensures { λ a. ⌜ a ≡ descend 60 (query r words) at origin origin ⌝ }
+    ensures { λ a. ⌜ a ≡ fromWhole r words at ⌝ }
 {
     let p = gap::prepare(r, words);
-    let c = Cell {
+    let whole = Stop {
         depths: Three { t: 0, u: 0, v: 0 },
         index: Three { t: 0, u: 0, v: 0 },
     };
-    go_down(p, at, c, 60)
+    go_down(p, at, whole, 60)
 }
 
-// Why a point, in parts, was ruled out. What refuses the query, and 23, leave the queue as it was; 24 and every answer leave it zero.
-pub fn why(r: Record, at: Three, queue: &mut [u64]) -> Ruling
-    ensures { λ a. ⌜ a ≡ whySearch r (length (now (queue .entry))) at ⌝ }
-    ensures { λ a. ⌜ now (queue .exit) ≡ whyQueueAfter (whySearch r (length (now (queue .entry))) at) (now (queue .entry)) ⌝ }
+// What refuses the question before anything is searched, the search's own and then 23; 0: nothing.
+pub fn ask_refusal(r: Record, words: usize, at: Three) -> u32
+    ensures { λ n. ⌜ n ≡ askRefusal r words at ⌝ }
 {
-    let number = refusals::search_refusal(r, queue.len());
-    if number != 0 {
-        return Ruling::Refused(number);
+    let own = search_refusal(r, words);
+    if own != 0 {
+        return own;
     }
-    if !in_domain(r, at) {
-        return Ruling::Refused(23);
-    }
+    first(!in_domain(r, at), 23, 0)
+}
+
+// A question that is not refused so: 24, or the box; the queue is zero after either.
+pub fn why_accepted(r: Record, at: Three, queue: &mut [u64]) -> Ruling
+    requires { ⌜ askRefusal r (length (now queue)) at ≡ 0 ⌝ }
+    ensures { λ a. ⌜ a ≡ whySearch r (length (now (queue .entry))) at ⌝ }
+    ensures { λ a. ⌜ now (queue .exit) ≡ replicate (length (now (queue .entry))) 0 ⌝ }
+{
     clear(queue);
     let a = search_accepted(r, queue);
     if !is_before(a, at.t) {
         return Ruling::Refused(24);
     }
     from_whole(r, queue.len(), at)
+}
+
+// Why a point, in parts, was ruled out.
+pub fn why(r: Record, at: Three, queue: &mut [u64]) -> Ruling
+    ensures { λ a. ⌜ a ≡ whySearch r (length (now (queue .entry))) at ⌝ }
+    ensures { λ a. ⌜ now (queue .exit) ≡ whyQueueAfter (whyRefusal r (length (now (queue .entry))) at) (now (queue .entry)) ⌝ }
+{
+    let number = ask_refusal(r, queue.len(), at);
+    if number != 0 {
+        return Ruling::Refused(number);
+    }
+    why_accepted(r, at, queue)
 }

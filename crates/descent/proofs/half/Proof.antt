@@ -1,8 +1,8 @@
 -- The split, the depths after it, and the half.
 use borrow.Author.Needs.{needs}
-use Rattle.why.proofs.Going.{halves}
-use Rattle.why.proofs.half.Statement.{statement}
-use Rattle.why.proofs.half.Tie as tie
+use Rattle.descent.proofs.Going.{halves}
+use Rattle.descent.proofs.half.Statement.{statement}
+use Rattle.descent.proofs.half.Tie as tie
 
 split-requires : tie.Need-split-requires
 split-requires c κs = search needs
@@ -13,7 +13,7 @@ deepen-requires c κs = search needs
 holding-requires : tie.Need-holding-requires
 holding-requires c κs =
     let s = c .before .before .before .before in
-    rw (c .before .split .ensures) (halves (s .args .p) (s .args .c) (s .pre))
+    rw (c .before .split .ensures) (halves (s .args .p) (s .args .s) (s .pre))
 
 returns : tie.Need-returns
 returns c =

@@ -1,0 +1,3 @@
+-- What the proofs of `descent` cite.
+pub mod Going
+pub mod Refusing

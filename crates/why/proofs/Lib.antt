@@ -1,3 +1,0 @@
--- What the proofs of `why` cite.
-pub mod Going
-pub mod Refusing
