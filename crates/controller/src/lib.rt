@@ -3,6 +3,7 @@ ghost use mathlib.Core.Path.{_≡_};
 ghost use Rattle.answers.specs.Walk.{One, Every, Counted};
 ghost use Rattle.bodies.specs.Asking.{body};
 ghost use Rattle.bodies.specs.Telling.{Tells};
+ghost use Rattle.reasons.specs.Telling.{TellsWhy};
 ghost use Rattle.controller.specs.Copying.{numberOf, Copied, Ended};
 use rules::Terms;
 use rules::Wrote;
@@ -34,6 +35,22 @@ pub extern "C" fn taperhive_count(file: &[u8], told: &mut [u32]) -> u32
     ensures { λ r. ⌜ Counted (now (file .entry)) (now (told .entry)) (now (told .exit)) r ⌝ }
 {
     answers::count_records(file, told)
+}
+
+// Why record n of a query file is safe at a moment and place, in 1/1,048,576 parts.
+#[no_mangle]
+pub extern "C" fn taperhive_why(
+    file: &[u8],
+    n: usize,
+    t: u32,
+    u: u32,
+    v: u32,
+    queue: &mut [u64],
+    told: &mut [u32],
+) -> u32
+    ensures { λ r. ⌜ TellsWhy (now (file .entry)) n (record { t = t; u = u; v = v }) (now (queue .entry)) (now (queue .exit)) (now (told .entry)) (now (told .exit)) r ⌝ }
+{
+    reasons::tell(file, n, t, u, v, queue, told)
 }
 
 // A writer's number, 0 where it is done.

@@ -16,11 +16,11 @@ use Rattle.rules.specs.Search.{search}
 use Rattle.rules.specs.Why.{inDomain, isBefore, fromWhole, askRefusal, whyRefusal, unlessWhy, whySearch, whyQueueAfter}
 
 -- ---- the search's own are 1 to 7
-abbrev Most : ℕ → List Case → Type 0
+abbrev pub Most : ℕ → List Case → Type 0
 Most n [] = Unit
 Most n (c ∷ cs) = (c .number ≤ n) × Most n cs
 
-first-most : (n : ℕ) (cs : List Case) → Most n cs → first cs ≤ n
+pub first-most : (n : ℕ) (cs : List Case) → Most n cs → first cs ≤ n
 unfolding first
 first-most n [] h = omega arith
 first-most n (c ∷ cs) h = go (c .due) (first-most n cs (h .1))
@@ -72,7 +72,7 @@ module _ (r : Record) (words : ℕ) (at : Three) where
         go zero false f = sym f
         go zero true f = absurd (h f)
 
-    few : n ≤ 23
+    pub few : n ≤ 23
     few = go (searchRefusal r words) (inDomain r at) (own-most r words) (e ∙ sym ask-is)
       where
         go : (k : ℕ) (x : Bool) → k ≤ 7 → n ≡ before k x → n ≤ 23

@@ -1,5 +1,5 @@
 -- Laws of `put`: a run of bytes written into a list.
---     put4                   four stores in a row are one run
+--     put-one, put4          one store, and four in a row, are one run
 --     length-put             the length stays
 --     put-nil                a run of no bytes changes nothing
 --     put-put, one-more      two runs, the second right behind the first, are one
@@ -15,6 +15,10 @@ use native.Mathlib.Nat.{add-zero}
 use lib.ListN.{length, set, getD, take, drop, length-append, length-drop, take-append-drop, List·getD-append}
 use lib.Seq.{sets-eq, length-take-le, take-at, drop-at, drop-append-add, drop-drop, take-add, getD-take, getD-append-add, getD-drop}
 use Rattle.rules.specs.QueryFile.{put}
+
+pub put-one : (s : List ℕ) (at b : ℕ) → at + 1 ≤ length s → set s at b ≡ put s at (b ∷ [])
+unfolding put
+put-one s at b h = sets-eq (b ∷ []) s at h
 
 -- four stores in a row are one run put in
 pub put4 : (s : List ℕ) (at a b c d : ℕ) → at + 4 ≤ length s → set (set (set (set s at a) (at + 1) b) (at + 2) c) (at + 3) d ≡ put s at (a ∷ b ∷ c ∷ d ∷ [])

@@ -1,5 +1,5 @@
 -- Laws of `Wrote` and `Printed`, what a writer promises.
---     put-one, put-paste     one byte stored, and a text copied byte by byte
+--     put-paste              a text copied byte by byte
 --     then                   a writer, and a second right behind it
 --     roomier                another bound on the place behind
 --     printed, printed-not   a whole text, and one that had no room
@@ -7,18 +7,14 @@
 use Prim.Native.Nat.{ℕ, _+_, _≤_}
 use mathlib.Core.Bool.{Bool, true, false}
 use mathlib.Core.Path.{_≡_, refl, ap}
-use mathlib.Core.List.{List, [], _∷_, _++_}
+use mathlib.Core.List.{List, _++_}
 use native.Mathlib.Omega.{arith}
-use lib.ListN.{length, set, length-append}
-use lib.Seq.{paste, take-length, sets-eq}
+use lib.ListN.{length, length-append}
+use lib.Seq.{paste, take-length}
 use Rattle.rules.specs.QueryFile.{put}
 use Rattle.little.specs.Put.{one-more}
 use Rattle.text.specs.Writers.{Wrote, Printed, writtenIf, bufferIf}
 use Rattle.text.specs.declared.Written.the-variants.{Text, Nothing}
-
-pub put-one : (s : List ℕ) (at b : ℕ) → at + 1 ≤ length s → set s at b ≡ put s at (b ∷ [])
-unfolding put
-put-one s at b h = sets-eq (b ∷ []) s at h
 
 -- a writer, and a second that begins where the first ended
 pub then : {j k at m next : ℕ} {s₀ s₁ s₂ xs ys : List ℕ}

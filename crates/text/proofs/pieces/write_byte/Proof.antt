@@ -2,7 +2,7 @@
 use borrow.Author.Needs.{needs}
 use mathlib.Core.Path.{refl}
 use native.Mathlib.Omega.{arith}
-use Rattle.text.proofs.Writing.{put-one}
+use Rattle.little.specs.Put.{put-one}
 use Rattle.text.proofs.pieces.write_byte.Statement.{statement}
 use Rattle.text.proofs.pieces.write_byte.Tie as tie
 

@@ -1,0 +1,2 @@
+-- What the proofs of `reasons` cite.
+pub mod Ruling
