@@ -2,11 +2,10 @@
 use mathlib.Core.Path.{_≡_, refl, sym, ap, _∙_}
 use mathlib.Core.Bool.{Bool, true, false, cond, _&&_}
 use Prim.Native.Nat.{ℕ, zero, suc, _+_, _*_, _-_, _^_, _≤_, _<_}
-use native.Mathlib.Nat.{lt-of-lt-of-le, pow-suc}
+use native.Mathlib.Nat.{pow-suc}
 use native.Mathlib.Numerals.{add-one}
 use native.Mathlib.Omega.{arith}
 use lib.Dec.{eqb}
-use lib.Pow.{pow-mono}
 use borrow.Author.Tests.{eqb-true}
 use Rattle.rules.specs.declared.Three.{Three}
 use Rattle.rules.specs.declared.Parameter.{Parameter}
@@ -28,10 +27,7 @@ use Rattle.search.specs.Levels.{depthIn, total}
 use Rattle.search.proofs.Deepening.{split-deepest, deeper-total, deeper-shallow}
 use Rattle.descent.specs.Way.{Halves, Good}
 
--- ---- an index of the grid, and of a half
-pub few : (k i : ℕ) → k < 20 → i < 2 ^ k → i < 1_048_576
-few k i h g = lt-of-lt-of-le g (pow-mono {i = k} {j = 20} (omega arith))
-
+-- ---- the index of an upper half
 pub upper-in : (k i : ℕ) → i < 2 ^ k → 2 * i + 1 ≤ 2 ^ (k + 1)
 upper-in k i h = omega (arith, double)
   where

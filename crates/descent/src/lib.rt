@@ -1,6 +1,7 @@
 // Why a point was ruled out: from the whole domain down into the half that holds it, to the first box that was discarded.
 ghost use mathlib.Core.Path.{_≡_};
 ghost use Prim.Native.Nat.{_≤_, _<_, _^_};
+ghost use lib.Dec.{ltb};
 ghost use lib.ListN.{length, replicate};
 ghost use Rattle.rules.specs.Refusals.{searchRefusal};
 ghost use Rattle.rules.specs.Why.{inDomain, isBefore, inUpper, goesUp, holding, halfOf, reasonOf, descend, fromWhole, askRefusal, whyRefusal, whySearch, whyQueueAfter};
@@ -48,6 +49,12 @@ fn in_domain(r: Record, at: Three) -> bool
     }
 }
 
+fn earlier(at: u64, t: u32) -> bool
+    ensures { λ b. ⌜ b ≡ ltb at t ⌝ }
+{
+    at < t as u64
+}
+
 // Whether a moment is before the answered one; under CLEAR every moment is.
 fn is_before(a: Answer, at: u64) -> bool
     ensures { λ b. ⌜ b ≡ isBefore a at ⌝ }
@@ -59,7 +66,7 @@ fn is_before(a: Answer, at: u64) -> bool
             v,
             excess,
             count,
-        } => at < t as u64,
+        } => earlier(at, t),
         Answer::Clear(count) => true,
         Answer::Spent {
             t,
@@ -67,21 +74,21 @@ fn is_before(a: Answer, at: u64) -> bool
             v,
             excess,
             count,
-        } => at < t as u64,
+        } => earlier(at, t),
         Answer::Room {
             t,
             u,
             v,
             excess,
             count,
-        } => at < t as u64,
+        } => earlier(at, t),
         Answer::Floor {
             t,
             u,
             v,
             excess,
             count,
-        } => at < t as u64,
+        } => earlier(at, t),
         Answer::Refused(number) => false,
     }
 }

@@ -2,6 +2,7 @@
 use Prim.Native.Nat.{_^_, _≤_, _<_}
 use Rattle.whole.specs.Within.{Within}
 use Rattle.rules.specs.declared.Three.{Three}
+use Rattle.rules.specs.declared.Reason.{Reason}
 use Rattle.kernel.specs.declared.Kernel.{Kernel}
 use Rattle.kernel.specs.declared.Pair.{Pair}
 
@@ -38,3 +39,9 @@ pub record InGrid (k box : Three) : Type 0 where
   pub t : box .t < 2 ^ (k .t)
   pub u : box .u < 2 ^ (k .u)
   pub v : box .v < 2 ^ (k .v)
+
+-- a box that is named is one of a level, and there are 61 levels
+pub record OnGrid (x : Reason) : Type 0 where
+  pub level : x .level ≤ 60
+  pub depths : Shallow (x .depths)
+  pub index : InGrid (x .depths) (x .index)

@@ -2,22 +2,19 @@
 --     refused-with    a refusal carries the number that is due
 --     named-why       where a box is named nothing is due, and it is the box that the record's own search names
 --     has-room        and there was room to tell it
---     small           the numbers of a box that is named fit 32 bits
+--     on-grid         a box that is named is one of the grid
 --     told-kept       what is told keeps the promises of promise/specs/Why.antt
 --     tells-once      no second number, told numbers or queue fit what `tell` promises
 -- Assumes nothing.
-use Prim.Native.Nat.{ℕ, zero, suc, _+_, _^_, _≤_, _<_}
+use Prim.Native.Nat.{ℕ, zero, suc}
 use mathlib.Core.Path.{_≡_, refl, sym, ap, _∙_, subst}
 use mathlib.Core.Bool.{Bool, true, false, not, cond}
 use mathlib.Core.List.{List}
-use native.Mathlib.Nat.{lt-of-lt-of-le}
 use native.Mathlib.Omega.{arith}
 use lib.Dec.{leb}
 use lib.ListN.{length}
-use lib.Pow.{pow-mono}
 use Rattle.rules.specs.declared.Record.{Record}
 use Rattle.rules.specs.declared.Three.{Three}
-use Rattle.rules.specs.declared.Stop.{Stop}
 use Rattle.rules.specs.declared.Reason.{Reason}
 use Rattle.rules.specs.declared.Ruling.{Ruling}
 use Rattle.rules.specs.declared.Ruling.the-variants.{Discarded, Refused}
@@ -25,9 +22,10 @@ use Rattle.rules.specs.Refusals.{first, orElse, searchRefusal}
 use Rattle.rules.specs.QueryFile.{fetched, put, putUnless}
 use Rattle.rules.specs.Search.{query, search}
 use Rattle.rules.specs.Why.{inDomain, isBefore, fromWhole, whyRefusal, unlessWhy, whySearch, nine, toldWhy}
-use Rattle.promise.specs.Why.{Held, Holds, Named, First}
+use Rattle.kernel.specs.Ranges.{OnGrid}
+use Rattle.promise.specs.Why.{Holds, Named, First}
 use Rattle.promise.proofs.Why.Promised.{names-discarded, names-the-first, has-box}
-use Rattle.reasons.specs.Telling.{asked, fileRefusal, fileRuling, TellsWhy, Small}
+use Rattle.reasons.specs.Telling.{asked, fileRefusal, fileRuling, TellsWhy}
 
 module _ (file : List ℕ) (n : ℕ) (at : Three) (room : Bool) (words : ℕ) where
   abbrev r : Record
@@ -87,16 +85,12 @@ module _ (file : List ℕ) (n : ℕ) (at : Three) (room : Bool) (words : ℕ) wh
       go zero f = (sym f, sym (its-own f) ∙ e)
       go (suc m) f = let g = ruling-is (suc m) f in let z : _≡_ {A = ℕ} 0 1 = cc in absurd (omega arith)
 
-  pub small : (x : Reason) → fileRuling file n at room words ≡ Discarded x → Small x
-  small x e =
+  pub on-grid : (x : Reason) → fileRuling file n at room words ≡ Discarded x → OnGrid x
+  on-grid x e =
       record {
         level = omega (arith, f .level, h .t .depth, h .u .depth, h .v .depth);
-        kt = h .t .depth;
-        ku = h .u .depth;
-        kv = h .v .depth;
-        t = few (h .t);
-        u = few (h .u);
-        v = few (h .v);
+        depths = record { t = h .t .depth; u = h .u .depth; v = h .v .depth };
+        index = record { t = h .t .grid; u = h .u .grid; v = h .v .grid };
       }
     where
       f : First (query r words) at x
@@ -104,9 +98,6 @@ module _ (file : List ℕ) (n : ℕ) (at : Three) (room : Bool) (words : ℕ) wh
 
       h : Holds at (record { depths = x .depths; index = x .index })
       h = subst (Holds at) (f .on-the-way) (f .held (x .level) (omega arith))
-
-      few : {k i a : ℕ} → Held k i a → i < 1_048_576
-      few {k} w = lt-of-lt-of-le (w .grid) (pow-mono {i = k} {j = 20} (w .depth))
 
 -- ---- what is told
 pub told-kept : (file : List ℕ) (n : ℕ) (at : Three) (queue queue′ out out′ : List ℕ) → TellsWhy file n at queue queue′ out out′ 0

@@ -1,5 +1,5 @@
 -- A record of a query file asked about a point (document 02, R-8): the refusals in their order, the answer, the numbers that are told and the queue.
-use Prim.Native.Nat.{ℕ, _≤_, _<_}
+use Prim.Native.Nat.{ℕ}
 use mathlib.Core.Path.{_≡_}
 use mathlib.Core.Bool.{Bool, not}
 use mathlib.Core.List.{List, [], _∷_}
@@ -7,7 +7,6 @@ use lib.Dec.{leb}
 use lib.ListN.{length}
 use Rattle.rules.specs.declared.Record.{Record}
 use Rattle.rules.specs.declared.Three.{Three}
-use Rattle.rules.specs.declared.Reason.{Reason}
 use Rattle.rules.specs.declared.Ruling.{Ruling}
 use Rattle.rules.specs.Refusals.{Case, first, orElse, searchRefusal}
 use Rattle.rules.specs.QueryFile.{fetched, putUnless}
@@ -40,13 +39,3 @@ pub record TellsWhy (file : List ℕ) (n : ℕ) (at : Three) (queue queue′ out
   pub says : number ≡ fileRefusal file n at (leb 9 (length out)) (length queue)
   pub told : out′ ≡ putUnless number out 0 (toldWhy (fileRuling file n at (leb 9 (length out)) (length queue)))
   pub left : queue′ ≡ whyQueueAfter number queue
-
--- numbers of a box on the grid: they fit 32 bits
-pub record Small (x : Reason) : Type 0 where
-  pub level : x .level ≤ 60
-  pub kt : x .depths .t ≤ 20
-  pub ku : x .depths .u ≤ 20
-  pub kv : x .depths .v ≤ 20
-  pub t : x .index .t < 1_048_576
-  pub u : x .index .u < 1_048_576
-  pub v : x .index .v < 1_048_576

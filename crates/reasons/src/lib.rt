@@ -5,7 +5,8 @@ ghost use lib.ListN.{length};
 ghost use Rattle.rules.specs.QueryFile.{put};
 ghost use Rattle.rules.specs.Gap.{place};
 ghost use Rattle.rules.specs.Why.{sideNumber, nine};
-ghost use Rattle.reasons.specs.Telling.{Small, Rules, TellsWhy};
+ghost use Rattle.kernel.specs.Ranges.{OnGrid};
+ghost use Rattle.reasons.specs.Telling.{Rules, TellsWhy};
 use answers::write_four;
 use descent::ask_refusal;
 use descent::why_accepted;
@@ -57,7 +58,7 @@ fn side_number(side: Side) -> u32
 
 // The nine numbers of a box that is named, from the first place on.
 fn write_nine(out: &mut [u32], x: Reason)
-    requires { ⌜ (9 ≤ length (now out)) × Small x ⌝ }
+    requires { ⌜ (9 ≤ length (now out)) × OnGrid x ⌝ }
     ensures { λ _. ⌜ now (out .exit) ≡ put (now (out .entry)) 0 (nine x) ⌝ }
 {
     let k = x.depths;

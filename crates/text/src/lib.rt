@@ -31,7 +31,7 @@ use pieces::write_number;
 use pieces::write_text;
 use rules::Told;
 
-mod pieces; // pieces.rt: bytes, numbers and names
+pub mod pieces; // pieces.rt: bytes, numbers and names
 
 // A record's id beside its answer in numbers.
 pub struct Row {

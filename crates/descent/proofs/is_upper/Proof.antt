@@ -1,7 +1,9 @@
 -- The low end of the upper half is worked out without a loss.
 use borrow.Author.Needs.{needs}
 use native.Mathlib.Omega.{arith}
-use Rattle.descent.proofs.Going.{few, upper-in}
+use native.Mathlib.Nat.{le-of-lt}
+use Rattle.gap.specs.Grid.{index-most}
+use Rattle.descent.proofs.Going.{upper-in}
 use Rattle.descent.proofs.is_upper.Statement.{statement}
 use Rattle.descent.proofs.is_upper.Tie as tie
 
@@ -9,10 +11,10 @@ add-low : tie.Need-add-low
 add-low c = search needs
 
 mul-low : tie.Need-mul-low
-mul-low c = let s = c in omega (arith, few (s .args .k) (s .args .i) (s .pre .0) (s .pre .1))
+mul-low c = omega (arith, index-most (le-of-lt (c .pre .0)) (c .pre .1))
 
 add-low-2 : tie.Need-add-low-2
-add-low-2 c = let s = c in omega (arith, few (s .args .k) (s .args .i) (s .pre .0) (s .pre .1))
+add-low-2 c = omega (arith, index-most (le-of-lt (c .pre .0)) (c .pre .1))
 
 low-requires : tie.Need-low-requires
 low-requires c κs = (omega (arith, c .pre .0), upper-in (c .args .k) (c .args .i) (c .pre .1))

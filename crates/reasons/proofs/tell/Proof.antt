@@ -5,7 +5,7 @@ use mathlib.Core.Path.{_≡_, sym, _∙_}
 use lib.Dec.{leb}
 use lib.ListN.{length}
 use Rattle.rules.specs.declared.Three.{Three}
-use Rattle.reasons.specs.Laws.{named-why, has-room, small}
+use Rattle.reasons.specs.Laws.{named-why, has-room, on-grid}
 use Rattle.reasons.proofs.Ruling.{tells-refused, tells-named}
 use Rattle.reasons.proofs.tell.Statement.{statement}
 use Rattle.reasons.proofs.tell.Tie as tie
@@ -28,7 +28,7 @@ write-nine-requires c κs =
     let room = leb 9 (length (a .out .now)) in
     let is = sym (w .rule .ensures .says) ∙ k .a2 .given .1 in
     let due = named-why (a .file .now) (a .n) at room (length (a .queue .now)) _ is .0 in
-    (leb-true 9 (length (a .out .now)) (has-room (a .file .now) (a .n) at room (length (a .queue .now)) due), small (a .file .now) (a .n) at room (length (a .queue .now)) _ is)
+    (leb-true 9 (length (a .out .now)) (has-room (a .file .now) (a .n) at room (length (a .queue .now)) due), on-grid (a .file .now) (a .n) at room (length (a .queue .now)) _ is)
 
 same-length : tie.Need-same-length
 same-length c = search needs

@@ -6,6 +6,7 @@ use Prim.Native.Nat.{ℕ, _+_}
 use native.Mathlib.Omega.{arith}
 use lib.ListN.{length-set}
 use Rattle.rules.specs.QueryFile.{put}
+use Rattle.gap.specs.Grid.{index-most}
 use Rattle.little.specs.Put.{put-one, one-more}
 use Rattle.reasons.proofs.write_nine.Statement.{statement}
 use Rattle.reasons.proofs.write_nine.Tie as tie
@@ -26,13 +27,13 @@ write-four-requires : tie.Need-write-four-requires
 write-four-requires c κs = search needs
 
 cast-write-four-5 : tie.Need-cast-write-four-5
-cast-write-four-5 c = search needs
+cast-write-four-5 c = let g = c .before .before .before .before .before .before .before .before .before .before .before .before .before .pre .1 in omega (arith, index-most (g .depths .t) (g .index .t))
 
 cast-write-four-6 : tie.Need-cast-write-four-6
-cast-write-four-6 c = search needs
+cast-write-four-6 c = let g = c .before .before .before .before .before .before .before .before .before .before .before .before .before .before .pre .1 in omega (arith, index-most (g .depths .u) (g .index .u))
 
 cast-write-four-7 : tie.Need-cast-write-four-7
-cast-write-four-7 c = search needs
+cast-write-four-7 c = let g = c .before .before .before .before .before .before .before .before .before .before .before .before .before .before .before .pre .1 in omega (arith, index-most (g .depths .v) (g .index .v))
 
 axis-number-requires : tie.Need-axis-number-requires
 axis-number-requires c κs = search needs
