@@ -1,0 +1,2 @@
+-- What the proofs of `console` cite.
+pub mod Reading

@@ -1,0 +1,2 @@
+-- What `why` prints of its input.
+pub mod Page
