@@ -22,7 +22,7 @@ use Rattle.rules.specs.Why.{goesUp, holding, missed, halfOf, reasonOf, nameOr, 
 use Rattle.kernel.specs.declared.Pair.{Pair}
 use Rattle.kernel.specs.Kernel.{asked}
 use Rattle.kernel.specs.Ranges.{Shallow, InGrid}
-use Rattle.queue.specs.Grid.{halves-grid}
+use Rattle.queue.specs.Grid.{half-grid as grid-of-half}
 use Rattle.search.specs.Levels.{depthIn, total}
 use Rattle.search.proofs.Deepening.{split-deepest, deeper-total, deeper-shallow}
 use Rattle.descent.specs.Way.{Halves, Good}
@@ -66,12 +66,9 @@ module _ (p : Pair) (s : Stop) (h : Good p s 1) where
   unfolding holding
   half-grid at = go (goesUp way (s .depths) (s .index) at)
     where
-      both : InGrid (deeper way (s .depths)) (lowHalf way (s .index)) × InGrid (deeper way (s .depths)) (highHalf way (s .index))
-      both = halves-grid way (s .depths) (s .index) (h .grid)
-
       go : (b : Bool) → InGrid (deeper way (s .depths)) (cond b (highHalf way (s .index)) (lowHalf way (s .index)))
-      go true = both .1
-      go false = both .0
+      go true = grid-of-half way true (s .depths) (s .index) (h .grid)
+      go false = grid-of-half way false (s .depths) (s .index) (h .grid)
 
 module _ (p : Pair) (s : Stop) (left : ℕ) (some : left ≡ 0 → ⊥) (g : Good p s left) where
   pub good-once : Good p s 1

@@ -8,8 +8,8 @@ ghost use Rattle.rules.specs.Why.{inDomain, isBefore, inUpper, goesUp, holding,
 ghost use Rattle.kernel.specs.Kernel.{asked};
 ghost use Rattle.kernel.specs.Ranges.{Shallow};
 ghost use Rattle.descent.specs.Way.{Halves, Good};
-use boxes::high_half;
-use boxes::low_half;
+use boxes::pack;
+use boxes::unpack;
 use gap::cell::PARTS;
 use gap::cell::low;
 use kernel::Pair;
@@ -117,11 +117,8 @@ fn holding(split: Parameter, k: Three, b: Three, at: Three) -> Three
     requires { ⌜ Halves split k b ⌝ }
     ensures { λ r. ⌜ r ≡ holding split k b at ⌝ }
 {
-    if goes_up(split, k, b, at) {
-        high_half(split, b)
-    } else {
-        low_half(split, b)
-    }
+    let upper = goes_up(split, k, b, at);
+    unpack(boxes::half(split, upper, pack(b)))
 }
 
 // The same at its depths, a level further down.
