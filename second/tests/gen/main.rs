@@ -1,6 +1,9 @@
 //! The generators: what each flavour promises.
 
+mod bodies;
+#[path = "../common/mod.rs"]
 mod common;
+mod edition2;
 
 use common::records;
 use second::file::{fetch, open};

@@ -1,8 +1,6 @@
 //! The generators of edition 2, and that those of edition 1 still make what they made.
 
-mod common;
-
-use common::{files, records};
+use crate::common::{files, records};
 use second::edition::Edition;
 use second::file::{open, TRAILER_BYTES};
 use second::gen::{flavours, generate, queries::queries};
