@@ -49,6 +49,11 @@ pub fn open(file: &[u8]) -> Result<Opened, Refusal> {
     Ok(Opened { edition, first: before - back, count })
 }
 
+/// A record's number as a caller hands it over; one beyond 32 bits is no record's, and neither is the highest of 32 bits.
+pub fn record_number(n: usize) -> u32 {
+    u32::try_from(n).unwrap_or(u32::MAX)
+}
+
 /// Record n as it stands: refusals 8 to 13, the record itself unchecked.
 pub fn record_at(file: &[u8], n: u32) -> Result<Record, Refusal> {
     let Opened { edition, first, count } = open(file)?;

@@ -14,3 +14,4 @@ pub mod script;
 pub mod search;
 pub mod text;
 pub mod told;
+pub mod why;

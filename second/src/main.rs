@@ -1,14 +1,17 @@
 //! The command line of the second program.
 
+use std::fs::File;
 use std::io::{Read, Write};
 use std::process::ExitCode;
 
 use second::gen::{flavours, generate, queries::queries, words::words};
 use second::script;
 use second::text::{sweep, MOST_INPUT, SWEEP_WORDS};
+use second::why;
 
 const USAGE: &str = "\
 usage: second sweep [WORDS]         answers the query file on standard input
+       second why N T U V [FILE]    why a moment and place of record N was ruled out; the file by name or on standard input
        second gen SEED FLAVOUR      writes a query file
        second flavours              lists the flavours
        second words SEED FLAVOUR    queue lengths worth trying on that file
@@ -32,6 +35,11 @@ fn run(arguments: &[&str]) -> Option<Vec<u8>> {
     match arguments {
         ["sweep"] => Some(sweep(&input(), SWEEP_WORDS).into_bytes()),
         ["sweep", words] => Some(sweep(&input(), words.parse().ok()?).into_bytes()),
+        ["why", n, t, u, v] => why_line(n, [t, u, v], input),
+        ["why", n, t, u, v, file] => {
+            let opened = opened(file)?;
+            why_line(n, [t, u, v], || kept(opened))
+        }
         ["gen", seed, flavour] => generate(seed.parse().ok()?, flavour),
         ["flavours"] => Some((flavours().join("\n") + "\n").into_bytes()),
         ["words", seed, flavour] => Some(spaced(&words(seed.parse().ok()?, flavour)?)),
@@ -43,20 +51,35 @@ fn run(arguments: &[&str]) -> Option<Vec<u8>> {
     }
 }
 
+/// The line of `why`; nothing is read where an argument is no number.
+fn why_line(n: &str, point: [&str; 3], input: impl FnOnce() -> Vec<u8>) -> Option<Vec<u8>> {
+    let [t, u, v] = point.map(|parts| parts.parse().ok());
+    let (n, point) = (n.parse().ok()?, [t?, u?, v?]);
+    Some(why::text::line(&why::text::answer(&input(), n, point)).into_bytes())
+}
+
 /// One line of numbers.
 fn spaced(numbers: &[usize]) -> Vec<u8> {
     let numbers: Vec<String> = numbers.iter().map(usize::to_string).collect();
     (numbers.join(" ") + "\n").into_bytes()
 }
 
-/// Standard input, but no more kept than tells that it is too long.
+/// A file by its name.
+fn opened(name: &str) -> Option<File> {
+    File::open(name).map_err(|fault| eprintln!("{name} cannot be opened: {fault}")).ok()
+}
+
 fn input() -> Vec<u8> {
+    kept(std::io::stdin().lock())
+}
+
+/// What a file or standard input holds, but no more kept than tells that it is too long.
+fn kept(mut from: impl Read) -> Vec<u8> {
     let mut bytes = Vec::new();
-    let mut stdin = std::io::stdin().lock();
-    let kept = stdin.by_ref().take(MOST_INPUT as u64 + 1).read_to_end(&mut bytes);
+    let kept = from.by_ref().take(MOST_INPUT as u64 + 1).read_to_end(&mut bytes);
     // The rest is read and dropped, so that whoever writes it is not cut off.
-    let dropped = std::io::copy(&mut stdin, &mut std::io::sink());
-    kept.and(dropped).expect("standard input can be read");
+    let dropped = std::io::copy(&mut from, &mut std::io::sink());
+    kept.and(dropped).expect("the input can be read");
     bytes
 }
 

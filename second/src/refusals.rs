@@ -21,6 +21,8 @@ pub enum Refusal {
     Space = 14,
     Long = 15,
     Body = 21,
+    Outside = 23,
+    NotRuledOut = 24,
 }
 
 impl Refusal {

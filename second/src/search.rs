@@ -1,8 +1,11 @@
 //! The search for one query, level by level.
 
+pub mod log;
+
 use crate::gap::{corners, Motion, Q};
 use crate::record::{Record, VERTEX_FACE};
 use crate::refusals::{check_record, check_words, Refusal};
+use log::{Checked, GridBox, LoggedLevel, Miss, Side};
 
 /// The deepest that a parameter is split.
 const DEEPEST: u32 = 20;
@@ -28,28 +31,34 @@ pub enum Answer {
 }
 
 impl Answer {
+    /// The recorded corner of an answer that has a time.
+    pub fn corner(&self) -> Option<&Corner> {
+        match self {
+            Answer::Met(corner) | Answer::Spent(corner) => Some(corner),
+            Answer::Room(corner) | Answer::Floor(corner) => Some(corner),
+            Answer::Clear { .. } | Answer::Refused(_) => None,
+        }
+    }
+
     /// Boxes checked; a refused search checks none.
     pub fn count(&self) -> u32 {
         match self {
-            Answer::Met(corner) | Answer::Spent(corner) => corner.count,
-            Answer::Room(corner) | Answer::Floor(corner) => corner.count,
             Answer::Clear { count } => *count,
-            Answer::Refused(_) => 0,
+            _ => self.corner().map_or(0, |corner| corner.count),
         }
     }
 }
 
-/// What a search went through; the generators aim at it, no answer depends on it.
+/// What a search went through; the generators aim at it, and it says why a point was ruled out. No answer depends on it.
 #[derive(Clone, Debug, PartialEq, Eq)]
 pub struct Trace {
     /// Boxes of the largest level made, the one that answered ROOM included; level 0 is one box.
     pub peak: usize,
     /// The count at the end of each level of which every box was checked.
     pub level_ends: Vec<u32>,
+    /// Every box checked, level by level from level 0 on.
+    pub log: Vec<LoggedLevel>,
 }
-
-/// A box: the t, u, v index of a closed grid cell.
-type GridBox = [u32; 3];
 
 /// Boxes of the same depths, in ascending order of t, then u, then v index.
 struct Level {
@@ -59,7 +68,8 @@ struct Level {
 
 /// What one check of a box finds.
 struct Check {
-    survives: bool,
+    /// The first axis that misses; nothing for a survivor.
+    missed: Option<Miss>,
     width: i128,
 }
 
@@ -71,6 +81,7 @@ struct Search<'a> {
     separations: [i128; 3],
     count: u32,
     recorded: Corner,
+    trace: Trace,
 }
 
 /// The answer to a record with a queue of so many words.
@@ -88,7 +99,7 @@ pub fn search_traced(record: &Record, words: usize) -> (Answer, Trace) {
 
 impl Trace {
     fn new() -> Trace {
-        Trace { peak: 1, level_ends: Vec::new() }
+        Trace { peak: 1, level_ends: Vec::new(), log: Vec::new() }
     }
 }
 
@@ -100,28 +111,32 @@ impl<'a> Search<'a> {
             separations: record.separations.map(|d| i128::from(d) * Q * Q),
             count: 0,
             recorded: Corner { t: 0, u: 0, v: 0, excess: 0, count: 0 },
+            trace: Trace::new(),
         }
     }
 
     fn run(mut self, half: usize) -> (Answer, Trace) {
+        (self.answer(half), self.trace)
+    }
+
+    fn answer(&mut self, half: usize) -> Answer {
         let mut differences = None;
-        let mut trace = Trace::new();
         let mut level = Level { depths: [0; 3], boxes: vec![[0; 3]] };
         loop {
             let survivors = match self.check_level(&level) {
                 Ok(survivors) => survivors,
-                Err(answer) => return (answer, trace),
+                Err(answer) => return answer,
             };
-            trace.level_ends.push(self.count);
+            self.trace.level_ends.push(self.count);
             if survivors.is_empty() {
-                return (Answer::Clear { count: self.count }, trace);
+                return Answer::Clear { count: self.count };
             }
             // Worked out at the first split, as most queries never come to one.
             let differences = differences.get_or_insert_with(|| self.motion.differences());
             level = self.split(level.depths, &survivors, differences);
-            trace.peak = trace.peak.max(level.boxes.len());
+            self.trace.peak = self.trace.peak.max(level.boxes.len());
             if level.boxes.len() > half {
-                return (Answer::Room(self.corner()), trace);
+                return Answer::Room(self.corner());
             }
         }
     }
@@ -129,13 +144,15 @@ impl<'a> Search<'a> {
     /// The survivors of a level, or the answer that ends the search inside it.
     fn check_level(&mut self, level: &Level) -> Result<Vec<GridBox>, Answer> {
         let mut survivors = Vec::new();
+        self.trace.log.push(LoggedLevel { depths: level.depths, checked: Vec::new() });
         for grid_box in &level.boxes {
             if self.count == self.record.budget {
                 return Err(Answer::Spent(self.corner()));
             }
             self.count += 1;
             let check = self.check(level.depths, grid_box);
-            if !check.survives {
+            self.keep(grid_box, &check);
+            if check.missed.is_some() {
                 continue;
             }
             if survivors.is_empty() {
@@ -146,6 +163,12 @@ impl<'a> Search<'a> {
         Ok(survivors)
     }
 
+    /// Logs a check of the level that was begun last.
+    fn keep(&mut self, grid_box: &GridBox, check: &Check) {
+        let level = self.trace.log.last_mut().expect("a level is logged before its boxes");
+        level.checked.push(Checked { grid_box: *grid_box, missed: check.missed });
+    }
+
     /// F at the eight corners against each axis's own separation, and the width.
     fn check(&self, depths: [u32; 3], grid_box: &GridBox) -> Check {
         let ends = [0, 1, 2].map(|n| {
@@ -153,13 +176,14 @@ impl<'a> Search<'a> {
             [place(depths[n], index), place(depths[n], index + 1)]
         });
         let at_corners: Vec<_> = corners(ends).into_iter().map(|c| self.motion.f(c)).collect();
-        let mut check = Check { survives: true, width: 0 };
+        let mut check = Check { missed: None, width: 0 };
         for axis in 0..3 {
             let values = at_corners.iter().map(|f| f[axis]);
             let least = values.clone().min().expect("eight corners");
             let greatest = values.max().expect("eight corners");
-            let d = self.separations[axis];
-            check.survives &= least <= d && greatest >= -d;
+            let side = beyond_side(least, greatest, self.separations[axis]);
+            // x before y before z: an earlier axis stays.
+            check.missed = check.missed.or(side.map(|side| Miss { axis, side }));
             check.width = check.width.max(greatest - least);
         }
         check
@@ -226,6 +250,14 @@ impl<'a> Search<'a> {
 /// Where the grid line of an index lies at a depth, times Q.
 fn place(depth: u32, index: u32) -> i128 {
     i128::from(index) * (Q >> depth)
+}
+
+/// The side on which all of F from the least to the greatest is beyond a separation, if it is.
+fn beyond_side(least: i128, greatest: i128, d: i128) -> Option<Side> {
+    if least > d {
+        return Some(Side::Above);
+    }
+    (greatest < -d).then_some(Side::Below)
 }
 
 /// A whole number over Q·Q, not negative, rounded up to a whole unit.

@@ -45,7 +45,8 @@ pub fn sweep_any_length(input: &[u8], words: usize) -> String {
     text + &tallies.line(opened.count)
 }
 
-fn file_line(refusal: Refusal) -> String {
+/// What is printed of a file that is refused.
+pub fn file_line(refusal: Refusal) -> String {
     format!("FILE {}\n", refusal.number())
 }
 

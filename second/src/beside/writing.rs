@@ -5,7 +5,9 @@ use super::places::{editions, record_bytes, rooms, some, Room};
 use super::tally::Tally;
 use super::{Case, Library};
 use crate::edition::Edition;
-use crate::file::{fetch, open, write_record, write_trailer, Opened, MOST_RECORDS, TRAILER_BYTES};
+use crate::file::{
+    fetch, open, record_number, write_record, write_trailer, Opened, MOST_RECORDS, TRAILER_BYTES,
+};
 use crate::record::Record;
 use crate::refusals::Refusal;
 use crate::rng::Rng;
@@ -191,9 +193,7 @@ impl Writer<'_> {
 
 /// Record n of the file into a buffer: fetching's refusals, then writing's.
 fn copied(file: &[u8], n: usize, edition: u8, buffer: &mut [u8], at: usize) -> Result<(), Refusal> {
-    // A number beyond 32 bits is no record's, and neither is the highest of 32 bits.
-    let n = u32::try_from(n).unwrap_or(u32::MAX);
-    let record = fetch(file, n).map_err(|refused| refused.refusal)?;
+    let record = fetch(file, record_number(n)).map_err(|refused| refused.refusal)?;
     write_record(buffer, at, edition, &record)
 }
 

@@ -96,7 +96,7 @@ pub fn walk(
     for asked in queries {
         let answer = ask(&asked.record);
         sum += u64::from(answer.count());
-        let Some(corner) = corner(&answer) else { continue };
+        let Some(corner) = answer.corner() else { continue };
         // An equal time later on changes nothing.
         if least.is_none_or(|least| corner.t < least.t) {
             least = Some(Least::of(&asked, &answer, corner));
@@ -105,15 +105,6 @@ pub fn walk(
     match least {
         Some(least) => BodiesAnswer::Least(Least { count: sum, ..least }),
         None => BodiesAnswer::Clear { count: sum },
-    }
-}
-
-/// The recorded corner of an answer that has a time.
-fn corner(answer: &Answer) -> Option<&Corner> {
-    match answer {
-        Answer::Met(corner) | Answer::Spent(corner) => Some(corner),
-        Answer::Room(corner) | Answer::Floor(corner) => Some(corner),
-        Answer::Clear { .. } | Answer::Refused(_) => None,
     }
 }
 

@@ -2,6 +2,7 @@
 
 use super::*;
 use crate::record::EDGE_EDGE;
+use crate::why::Searched;
 
 /// Crossing edges that meet once, at thirds, so that no low corner lies on the contact.
 fn crossing(tolerance: u32) -> Record {
@@ -36,6 +37,41 @@ fn floor_at_three_depths_of_20() {
         }
         other => panic!("{other:?}"),
     }
+}
+
+// The point of the floor stands in one box a level; the one beside it in t was discarded 20 splits of t down.
+#[test]
+fn moment_before_the_floor_is_ruled_out() {
+    let record = crossing(0);
+    let (answer, Trace { log, .. }) = Search::new(&record).run(1 << 19);
+    let searched = Searched { record, answer, log };
+    let third = (Q / 3) as u32;
+    assert_eq!(searched.why([third; 3]), Err(Refusal::NotRuledOut));
+    let before = searched.why([third - 1, third, third]).unwrap();
+    assert_eq!((before.depths[0], before.grid_box[0]), (20, third - 1));
+}
+
+#[test]
+fn log_has_every_box_checked_in_order() {
+    let (answer, trace) = search_traced(&crossing(16), 4096);
+    let checked: usize = trace.log.iter().map(|level| level.checked.len()).sum();
+    assert_eq!(checked as u32, answer.count());
+    for (number, level) in trace.log.iter().enumerate() {
+        assert_eq!(level.depths.iter().sum::<u32>(), number as u32);
+        assert!(level.checked.is_sorted_by_key(|checked| checked.grid_box));
+    }
+    let survivors = trace.log.iter().flat_map(|level| &level.checked);
+    // One survivor a level, and the last one answers.
+    assert_eq!(survivors.filter(|checked| checked.missed.is_none()).count(), trace.log.len());
+}
+
+#[test]
+fn side_is_beyond_the_separation_and_not_at_it() {
+    assert_eq!(beyond_side(-9, 5, 5), None);
+    assert_eq!(beyond_side(5, 9, 5), None);
+    assert_eq!(beyond_side(6, 9, 5), Some(Side::Above));
+    assert_eq!(beyond_side(-9, -5, 5), None);
+    assert_eq!(beyond_side(-9, -6, 5), Some(Side::Below));
 }
 
 #[test]
