@@ -7,7 +7,7 @@ use std::process::ExitCode;
 use second::gen::{flavours, generate, queries::queries, words::words};
 use second::script;
 use second::text::{sweep, MOST_INPUT, SWEEP_WORDS};
-use second::why;
+use second::why::text;
 
 const USAGE: &str = "\
 usage: second sweep [WORDS]         answers the query file on standard input
@@ -55,7 +55,8 @@ fn run(arguments: &[&str]) -> Option<Vec<u8>> {
 fn why_line(n: &str, point: [&str; 3], input: impl FnOnce() -> Vec<u8>) -> Option<Vec<u8>> {
     let [t, u, v] = point.map(|parts| parts.parse().ok());
     let (n, point) = (n.parse().ok()?, [t?, u?, v?]);
-    Some(why::text::line(&why::text::answer(&input(), n, point)).into_bytes())
+    let why = text::searched(&input(), n).and_then(|searched| searched.why(point));
+    Some(text::line(&why).into_bytes())
 }
 
 /// One line of numbers.

@@ -116,7 +116,8 @@ fn differences_are_kept_and_fail_the_verdict() {
     let folder = folder("kept");
     let sweep = program(&["sweep"]);
     let case = Case::new(3, "tiny").unwrap();
-    let walk = |library| Walk { library, program: &sweep, folder: folder.clone() };
+    let why = program(&["why"]);
+    let walk = |library| Walk { library, sweep: &sweep, why: &why, folder: folder.clone() };
     assert!(walk(library::<0>()).only(&case));
     assert!(!folder.exists());
     assert!(!walk(library::<1>()).only(&case));
@@ -131,8 +132,9 @@ fn differences_are_kept_and_fail_the_verdict() {
 #[test]
 fn comparing_nothing_fails() {
     let folder = folder("nothing");
-    let sweep = program(&["sweep"]);
-    let walk = Walk { library: library::<0>(), program: &sweep, folder: folder.clone() };
+    let (sweep, why) = (program(&["sweep"]), program(&["why"]));
+    let library = library::<0>();
+    let walk = Walk { library, sweep: &sweep, why: &why, folder: folder.clone() };
     assert!(!walk.run(1, Duration::ZERO));
     assert!(walk.run(1, Duration::from_secs(2)));
     // Nothing is left of a comparison without a difference.

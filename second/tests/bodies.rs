@@ -106,7 +106,7 @@ fn tally_counts_what_was_compared() {
 fn differences_are_kept_with_every_number_and_how_to_run_them_again() {
     let folder = std::env::temp_dir().join(format!("taperhive-bodies-{}", std::process::id()));
     let case = Case::new(2, "bodies-near").unwrap();
-    let walk = |library| Walk { library, program: &[], folder: folder.clone() };
+    let walk = |library| Walk { library, sweep: &[], why: &[], folder: folder.clone() };
     assert!(walk(library::<0>()).only_bodies(&case));
     assert!(!folder.exists());
     assert_eq!(FAULTS[15], Fault::QueriesFromZero);

@@ -142,7 +142,24 @@ fn refused_in_the_order_of_the_papers() {
     assert_eq!(number(case, WORDS, [0; 3], TOLD), 0);
 }
 
-/// Ends of the box in parts, times the step from parts to Q.
+#[test]
+#[should_panic(expected = "the search checked the box")]
+fn box_that_was_never_checked_is_not_named() {
+    let mut searched = Searched::of(&first_case(), WORDS).unwrap();
+    assert!(searched.why([0; 3]).is_ok());
+    searched.log[2].checked.remove(0);
+    let _ = searched.why([0; 3]);
+}
+
+#[test]
+#[should_panic(expected = "the search discarded no box")]
+fn box_below_the_last_level_is_not_named() {
+    let mut searched = Searched::of(&first_case(), WORDS).unwrap();
+    searched.log.truncate(2);
+    let _ = searched.why([0; 3]);
+}
+
+/// Ends of the box, times Q.
 fn ends(discarded: &Discarded) -> [[i128; 2]; 3] {
     [0, 1, 2].map(|n| {
         let side = Q >> discarded.depths[n];

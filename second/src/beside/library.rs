@@ -3,17 +3,32 @@
 use super::buffers::{Lent, Shifted};
 use super::expected::{answered, Expected, TOLD};
 use super::judged::{differences, Must};
+use super::places::absent;
 use super::tally::Tally;
 use super::{Case, LONG};
 use crate::bodies::Bodies;
 use crate::edition::Edition;
 use crate::rng::Rng;
+use crate::why::Parts;
 
 /// File, queue, told; a slice is a pointer and then a length.
 pub type Answers = unsafe extern "C" fn(*const u8, usize, *mut u64, usize, *mut u32, usize) -> u32;
 /// File, number of the record, queue, told.
 pub type OneAnswer =
     unsafe extern "C" fn(*const u8, usize, usize, *mut u64, usize, *mut u32, usize) -> u32;
+/// File, number of the record, t, u, v, queue, told.
+pub type Why = unsafe extern "C" fn(
+    *const u8,
+    usize,
+    usize,
+    u32,
+    u32,
+    u32,
+    *mut u64,
+    usize,
+    *mut u32,
+    usize,
+) -> u32;
 /// File, count.
 pub type Count = unsafe extern "C" fn(*const u8, usize, *mut u32, usize) -> u32;
 /// File, number of the record, edition, buffer, place.
@@ -53,6 +68,7 @@ pub struct Library {
     pub copy: Copied,
     pub trailer: Trailer,
     pub bodies: TwoBodies,
+    pub why: Why,
 }
 
 impl Library {
@@ -71,6 +87,22 @@ impl Library {
         unsafe {
             let (queue, told) = (queue.as_mut_ptr(), told.as_mut_ptr());
             (self.answer)(file.as_ptr(), file.len(), n, queue, words, told, lent)
+        }
+    }
+
+    pub fn why(
+        &self,
+        file: &[u8],
+        n: usize,
+        point: Parts,
+        queue: &mut [u64],
+        told: &mut [u32],
+    ) -> u32 {
+        let ([t, u, v], words, lent) = (point, queue.len(), told.len());
+        // Sound: as above; the parts may be any numbers.
+        unsafe {
+            let (queue, told) = (queue.as_mut_ptr(), told.as_mut_ptr());
+            (self.why)(file.as_ptr(), file.len(), n, t, u, v, queue, words, told, lent)
         }
     }
 
@@ -172,7 +204,7 @@ impl<'a> Caller<'a> {
             self.one(n, words, lent, expected);
         }
         if words <= LONG {
-            let absent = self.rng.pick(&[count, count + 1, 4096, 1 << 32, 1 << 57, usize::MAX]);
+            let absent = absent(&mut self.rng, count);
             let lent = self.rng.below(10);
             self.one(absent, words, lent, expected);
             let (any, short) = (self.rng.below(count + 1), self.rng.below(TOLD));

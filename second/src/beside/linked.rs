@@ -52,6 +52,18 @@ extern "C" {
         told: *mut u32,
         told_len: usize,
     ) -> u32;
+    fn taperhive_why(
+        file: *const u8,
+        file_len: usize,
+        n: usize,
+        t: u32,
+        u: u32,
+        v: u32,
+        queue: *mut u64,
+        queue_len: usize,
+        told: *mut u32,
+        told_len: usize,
+    ) -> u32;
 }
 
 pub fn library() -> Library {
@@ -62,5 +74,6 @@ pub fn library() -> Library {
         copy: taperhive_copy,
         trailer: taperhive_trailer,
         bodies: taperhive_bodies,
+        why: taperhive_why,
     }
 }

@@ -13,6 +13,7 @@ mod progress;
 pub mod report;
 pub mod tally;
 pub mod walk;
+pub mod why;
 pub mod writing;
 
 pub use expected::Expected;

@@ -45,6 +45,11 @@ impl From<(usize, usize)> for Room {
     }
 }
 
+/// A number of a record that is not there, behind so many that are.
+pub fn absent(rng: &mut Rng, count: usize) -> usize {
+    rng.pick(&[count, count + 1, 4096, 1 << 32, (1 << 32) + count / 2, 1 << 57, usize::MAX])
+}
+
 /// Both editions and a number that is none's.
 pub fn editions(rng: &mut Rng) -> [u8; 3] {
     [1, 2, rng.pick(&[0, 3, 255])]

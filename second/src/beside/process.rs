@@ -1,4 +1,4 @@
-//! `sweep` as a program of its own, against what the second program prints.
+//! A program of its own, against what the second program prints.
 
 use super::tally::Tally;
 use super::Case;
@@ -6,14 +6,19 @@ use crate::text::{sweep, SWEEP_WORDS};
 use std::io::Write;
 use std::process::{Command, Stdio};
 
-/// What differs between the program's output and the second program's text, a line each.
+/// What differs between the output of `sweep` and the second program's text, a line each.
 pub fn compare(program: &[String], case: &Case, tally: &mut Tally) -> Vec<String> {
     let must = sweep(&case.file, SWEEP_WORDS);
     tally.text(case.edition(), &must);
-    match output(program, &case.file) {
-        Err(fault) => vec![format!("sweep: {fault}")],
-        Ok(text) if text == must => Vec::new(),
-        Ok(text) => vec![first_difference(&text, &must)],
+    difference("sweep", program, &case.file, &must).into_iter().collect()
+}
+
+/// What differs between the text that a program prints of an input and the text that it must print.
+pub fn difference(name: &str, program: &[String], input: &[u8], must: &str) -> Option<String> {
+    match output(program, input) {
+        Err(fault) => Some(format!("{name}: {fault}")),
+        Ok(text) if text == must => None,
+        Ok(text) => Some(format!("{name}: {}", first_difference(&text, must))),
     }
 }
 
@@ -41,5 +46,5 @@ fn output(program: &[String], input: &[u8]) -> Result<String, String> {
 fn first_difference(text: &str, must: &str) -> String {
     let place = text.lines().zip(must.lines()).take_while(|(is, must)| is == must).count();
     let line = |text: &str| text.lines().nth(place).unwrap_or("(nothing)").to_string();
-    format!("sweep: line {place} is '{}' and must be '{}'", line(text), line(must))
+    format!("line {place} is '{}' and must be '{}'", line(text), line(must))
 }

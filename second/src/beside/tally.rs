@@ -5,7 +5,8 @@ use super::progress::Counts;
 use crate::edition::Edition;
 use std::fmt;
 
-const WORDS: [&str; 6] = ["REFUSED", "MET", "CLEAR", "SPENT", "ROOM", "FLOOR"];
+/// The words of answers by their numbers, refused records first.
+pub const WORDS: [&str; 6] = ["REFUSED", "MET", "CLEAR", "SPENT", "ROOM", "FLOOR"];
 
 #[derive(Clone, Debug, Default)]
 pub struct Tally {
@@ -85,7 +86,12 @@ pub fn write_answers(f: &mut fmt::Formatter, words: &[u64; 6], refusals: &[u64])
         write!(f, " {name} {number}")?;
     }
     write!(f, "; refusals by number")?;
-    for (n, number) in refusals.iter().enumerate().filter(|(_, number)| **number > 0) {
+    write_by_number(f, refusals)
+}
+
+/// Those that came at all, each behind its number.
+pub fn write_by_number(f: &mut fmt::Formatter, counted: &[u64]) -> fmt::Result {
+    for (n, number) in counted.iter().enumerate().filter(|(_, number)| **number > 0) {
         write!(f, " {n}: {number}")?;
     }
     Ok(())

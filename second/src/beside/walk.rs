@@ -3,7 +3,7 @@
 use super::progress::{verdict, Counts, Progress};
 use super::report::{self, Again};
 use super::tally::Tally;
-use super::{bodies, compare, process, Case, Library};
+use super::{bodies, compare, process, why, Case, Library};
 use crate::gen;
 use std::fs;
 use std::path::PathBuf;
@@ -11,28 +11,37 @@ use std::time::{Duration, Instant};
 
 /// How often a long comparison says how far it is.
 const SAYS: Duration = Duration::from_secs(600);
-/// Of the time, one part in so many goes to `sweep` as a program, to bodies, and to the largest bodies; the rest to files in process.
-const PROGRAM_SHARE: u32 = 4;
+/// Of the time, one part in so many goes to `sweep` as a program, to bodies, to the largest bodies, to `why`, and to `why` as a program; the rest, a
+/// third of it, to files in process.
+const SWEEP_SHARE: u32 = 6;
 const BODIES_SHARE: u32 = 4;
 const LARGE_SHARE: u32 = 12;
+const WHY_SHARE: u32 = 8;
+const WHY_PROGRAM_SHARE: u32 = 24;
 /// The largest bodies take seconds, and are begun only where so much time is left.
 const LARGE_NEEDS: Duration = Duration::from_secs(10);
 
 /// Holds the seed and the flavour of the case under way.
 const UNDER_WAY: &str = "under-way";
 
+/// A way of comparing a case, which counts what it goes through and says what differs.
+type By<W, C, T> = fn(&W, &C, &mut T) -> Vec<String>;
+
 /// Where each way of comparing stands.
 struct Ways {
     calls: Progress<Tally>,
-    programs: Progress<Tally>,
+    sweeps: Progress<Tally>,
     bodies: Progress<bodies::tally::Tally>,
     large: Progress<bodies::tally::Tally>,
+    why: Progress<why::tally::Tally>,
+    why_programs: Progress<why::tally::Tally>,
 }
 
 pub struct Walk<'a> {
     pub library: Library,
-    /// `sweep` and its arguments.
-    pub program: &'a [String],
+    /// `sweep` as it is called, and `why` as it is called but for its numbers.
+    pub sweep: &'a [String],
+    pub why: &'a [String],
     /// Where differences are kept.
     pub folder: PathBuf,
 }
@@ -42,23 +51,29 @@ impl Ways {
         let small = gen::bodies::flavours().into_iter().filter(|name| *name != gen::bodies::LARGE);
         Ways {
             calls: Progress::new("in process", first, gen::flavours()),
-            programs: Progress::new("sweep as a program", first, gen::flavours()),
+            sweeps: Progress::new("sweep as a program", first, gen::flavours()),
             bodies: Progress::new("bodies", first, small.collect()),
             large: Progress::new("bodies of 256 triangles", first, vec![gen::bodies::LARGE]),
+            why: Progress::new("why in process", first, gen::flavours()),
+            why_programs: Progress::new("why as a program", first, gen::flavours()),
         }
     }
 
     fn say(&self) {
         self.calls.say();
-        self.programs.say();
+        self.sweeps.say();
         self.bodies.say();
         self.large.say();
+        self.why.say();
+        self.why_programs.say();
     }
 
     /// Short runs have no time for the largest bodies; these alone may have no case.
     fn verdict(&self) -> bool {
-        let files = [&self.calls, &self.programs].map(|way| way.tally.cases());
-        let mut ways = vec![files[0], files[1], self.bodies.tally.cases()];
+        let files = [&self.calls, &self.sweeps].map(|way| way.tally.cases());
+        let why = [&self.why, &self.why_programs].map(|way| way.tally.cases());
+        let mut ways = [files, why].concat();
+        ways.push(self.bodies.tally.cases());
         ways.extend(Some(self.large.tally.cases()).filter(|cases| *cases != (0, 0)));
         verdict(&ways)
     }
@@ -89,36 +104,54 @@ impl Walk<'_> {
             self.step(&mut ways.large, bodies::Case::new, Walk::bodies);
         } else if ways.bodies.is_due(BODIES_SHARE, elapsed) {
             self.step(&mut ways.bodies, bodies::Case::new, Walk::bodies);
-        } else if ways.programs.is_due(PROGRAM_SHARE, elapsed) {
-            self.step(&mut ways.programs, Case::new, Walk::program);
+        } else if ways.sweeps.is_due(SWEEP_SHARE, elapsed) {
+            self.step(&mut ways.sweeps, Case::new, Walk::sweep);
+        } else if ways.why.is_due(WHY_SHARE, elapsed) {
+            self.step(&mut ways.why, Case::new, Walk::why);
+        } else if ways.why_programs.is_due(WHY_PROGRAM_SHARE, elapsed) {
+            self.step(&mut ways.why_programs, Case::new, Walk::why_program);
         } else {
             self.step(&mut ways.calls, Case::new, Walk::calls);
         }
     }
 
-    /// One file both ways.
+    /// One file every way.
     pub fn only(&self, case: &Case) -> bool {
-        let (mut calls, mut program) = (Tally::default(), Tally::default());
-        self.judge(case, self.calls(case, &mut calls), &mut calls);
-        self.judge(case, self.program(case, &mut program), &mut program);
-        println!("in process: {calls}\nas a program: {program}");
-        verdict(&[calls.cases(), program.cases()])
+        verdict(&[
+            self.once("in process", case, Walk::calls).cases(),
+            self.once("sweep as a program", case, Walk::sweep).cases(),
+            self.once("why in process", case, Walk::why).cases(),
+            self.once("why as a program", case, Walk::why_program).cases(),
+        ])
     }
 
     /// One pair of bodies.
     pub fn only_bodies(&self, case: &bodies::Case) -> bool {
-        let mut tally = bodies::tally::Tally::default();
-        self.judge(case, self.bodies(case, &mut tally), &mut tally);
-        println!("bodies: {tally}");
-        verdict(&[tally.cases()])
+        verdict(&[self.once("bodies", case, Walk::bodies).cases()])
+    }
+
+    /// One case one way.
+    fn once<T: Counts, C: Again>(&self, name: &str, case: &C, by: By<Self, C, T>) -> T {
+        let mut tally = T::default();
+        self.judge(case, by(self, case, &mut tally), &mut tally);
+        println!("{name}: {tally}");
+        tally
     }
 
     fn calls(&self, case: &Case, tally: &mut Tally) -> Vec<String> {
         compare(&self.library, case, tally)
     }
 
-    fn program(&self, case: &Case, tally: &mut Tally) -> Vec<String> {
-        process::compare(self.program, case, tally)
+    fn sweep(&self, case: &Case, tally: &mut Tally) -> Vec<String> {
+        process::compare(self.sweep, case, tally)
+    }
+
+    fn why(&self, case: &Case, tally: &mut why::tally::Tally) -> Vec<String> {
+        why::compare(&self.library, case, tally)
+    }
+
+    fn why_program(&self, case: &Case, tally: &mut why::tally::Tally) -> Vec<String> {
+        why::program::compare(self.why, case, tally)
     }
 
     fn bodies(&self, case: &bodies::Case, tally: &mut bodies::tally::Tally) -> Vec<String> {
@@ -129,7 +162,7 @@ impl Walk<'_> {
         &self,
         way: &mut Progress<T>,
         make: fn(u64, &str) -> Option<C>,
-        by: fn(&Self, &C, &mut T) -> Vec<String>,
+        by: By<Self, C, T>,
     ) {
         let begun = Instant::now();
         let (seed, flavour) = way.advance();

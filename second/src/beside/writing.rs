@@ -1,7 +1,7 @@
 //! The writing side: records copied and trailers written into dirty buffers, at places of every sort.
 
 use super::buffers::{After, Lent, Shifted};
-use super::places::{editions, record_bytes, rooms, some, Room};
+use super::places::{absent, editions, record_bytes, rooms, some, Room};
 use super::tally::Tally;
 use super::{Case, Library};
 use crate::edition::Edition;
@@ -55,8 +55,7 @@ impl Writer<'_> {
             let n = self.rng.below(count);
             self.copies_of(n);
         }
-        let beyond = [count, count + 1, 4096, 1 << 32, (1 << 32) + count / 2, 1 << 57, usize::MAX];
-        let absent = self.rng.pick(&beyond);
+        let absent = absent(&mut self.rng, count);
         self.copies_of(absent);
     }
 

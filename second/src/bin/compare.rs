@@ -1,4 +1,4 @@
-//! Compares the proved library and `sweep` with the second program.
+//! Compares the proved library, `sweep` and `why` with the second program.
 
 use second::beside::{bodies, linked, walk::Walk, Case};
 use std::path::PathBuf;
@@ -6,8 +6,8 @@ use std::process::ExitCode;
 use std::time::Duration;
 
 const USAGE: &str = "\
-usage: compare SECONDS SEED PROGRAM..           from a seed on, for so long
-       compare --only SEED FLAVOUR PROGRAM..    one file or pair of bodies; PROGRAM.. is sweep as it is called";
+usage: compare SECONDS SEED RUN SWEEP WHY           from a seed on, for so long
+       compare --only SEED FLAVOUR RUN SWEEP WHY    one file or pair of bodies; RUN runs the programs SWEEP and WHY";
 
 fn main() -> ExitCode {
     let arguments: Vec<String> = std::env::args().skip(1).collect();
@@ -24,10 +24,11 @@ fn main() -> ExitCode {
 /// True where nothing differed; nothing where the arguments say nothing known.
 fn run(arguments: &[String]) -> Option<bool> {
     let only = arguments.first()? == "--only";
-    let (numbers, program) = arguments.split_at_checked(if only { 3 } else { 2 })?;
-    program.first()?;
+    let (numbers, programs) = arguments.split_at_checked(if only { 3 } else { 2 })?;
+    let [run, sweep, why] = programs else { return None };
+    let [sweep, why] = [sweep, why].map(|program| [run.clone(), program.clone()]);
     let folder = PathBuf::from("target/differences");
-    let walk = Walk { library: linked::library(), program, folder };
+    let walk = Walk { library: linked::library(), sweep: &sweep, why: &why, folder };
     if only {
         let (seed, flavour) = (numbers[1].parse().ok()?, &numbers[2]);
         let of_bodies = || Some(walk.only_bodies(&bodies::Case::new(seed, flavour)?));

@@ -1,21 +1,21 @@
 //! What the program `why` prints.
 
-use super::{Discarded, Parts, Searched, ONE};
+use super::{Discarded, Searched, ONE};
 use crate::file::{record_at, record_number};
 use crate::refusals::Refusal;
 use crate::search::log::Side;
 use crate::text::{file_line, MOST_INPUT, SWEEP_WORDS};
 
-/// What rules a point out of record n of an input: 15 before anything else, 8 to 13, 1 to 6, 23, 24.
-pub fn answer(input: &[u8], n: usize, point: Parts) -> Result<Discarded, Refusal> {
+/// Record n of an input, searched as `sweep` does: 15 before anything else, 8 to 13, 1 to 6.
+pub fn searched(input: &[u8], n: usize) -> Result<Searched, Refusal> {
     if input.len() > MOST_INPUT {
         return Err(Refusal::Long);
     }
     let record = record_at(input, record_number(n))?;
-    Searched::of(&record, SWEEP_WORDS)?.why(point)
+    Searched::of(&record, SWEEP_WORDS)
 }
 
-/// The one line that says it.
+/// The one line that says what rules a point out, or what is refused.
 pub fn line(answer: &Result<Discarded, Refusal>) -> String {
     match answer {
         Ok(discarded) => ruled_out(discarded),

@@ -11,6 +11,7 @@ macro_rules! faults {
 }
 
 pub mod bodies;
+pub mod why;
 pub mod writing;
 
 use second::beside::Library;
@@ -36,6 +37,7 @@ pub fn library<const N: usize>() -> Library {
         copy: writing::copy::<0>,
         trailer: writing::trailer::<0>,
         bodies: bodies::bodies::<0, false>,
+        why: why::why::<0>,
     }
 }
 
@@ -47,6 +49,11 @@ pub fn writing_library<const N: usize>() -> Library {
 /// The library with fault number N of the bodies' list.
 pub fn bodies_library<const N: usize>() -> Library {
     Library { bodies: bodies::bodies::<N, false>, ..library::<0>() }
+}
+
+/// The library with fault number N of the list of `why`.
+pub fn why_library<const N: usize>() -> Library {
+    Library { why: why::why::<N>, ..library::<0>() }
 }
 
 /// The same where every query is clear by a million boxes.
