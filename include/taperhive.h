@@ -1,4 +1,4 @@
-/* Taperhive for a controller: the queries of a file, or of two bodies of triangles, searched and told in numbers.
+/* Taperhive for a controller: the queries of a file, or of two bodies of triangles, searched and told in numbers; and why a pair was safe at a moment and place.
  *
  * Build: rt staticlib controller, then link target/staticlib/libcontroller.a (x86-64 Linux).
  * Every function may be called with any bytes, any numbers and any lengths; nothing is left for the caller to check first. A pointer must
@@ -17,7 +17,7 @@
  * A file is of edition 1 (records of 116 bytes, one separation for all axes) or 2 (128 bytes, one for each); no call asks which.
  *
  * What the functions on a file return: 0, or why nothing was done: 8 SHORT, 9 MARK, 10 EDITION, 11 COUNT, 12 BACK of the file, 13 INDEX of the record number,
- * 14 SPACE where fewer numbers are lent than are to be told; the lowest. Then nothing that was lent is changed.
+ * 14 SPACE where fewer numbers are lent than are to be told; the lowest. Then nothing that was lent is changed. taperhive_why gives more numbers, said there.
  */
 #ifndef TAPERHIVE_H
 #define TAPERHIVE_H
@@ -31,6 +31,11 @@ extern "C" {
 
 enum { TAPERHIVE_REFUSED, TAPERHIVE_MET, TAPERHIVE_CLEAR, TAPERHIVE_SPENT, TAPERHIVE_ROOM, TAPERHIVE_FLOOR };
 enum { TAPERHIVE_ID, TAPERHIVE_WORD, TAPERHIVE_T, TAPERHIVE_U, TAPERHIVE_V, TAPERHIVE_EXCESS, TAPERHIVE_COUNT, TAPERHIVE_NUMBER, TAPERHIVE_TOLD };
+/* Where taperhive_why tells what, its axes and its sides. */
+enum { TAPERHIVE_WHY_LEVEL, TAPERHIVE_WHY_DEPTH_T, TAPERHIVE_WHY_DEPTH_U, TAPERHIVE_WHY_DEPTH_V, TAPERHIVE_WHY_BOX_T, TAPERHIVE_WHY_BOX_U, TAPERHIVE_WHY_BOX_V,
+       TAPERHIVE_WHY_AXIS, TAPERHIVE_WHY_SIDE, TAPERHIVE_WHY_TOLD };
+enum { TAPERHIVE_X, TAPERHIVE_Y, TAPERHIVE_Z };
+enum { TAPERHIVE_BELOW, TAPERHIVE_ABOVE };
 /* Where taperhive_bodies tells what; the sum's high half stands behind its low half. */
 enum { TAPERHIVE_BODIES_WORD, TAPERHIVE_BODIES_T, TAPERHIVE_BODIES_A, TAPERHIVE_BODIES_B, TAPERHIVE_BODIES_QUERY, TAPERHIVE_BODIES_EXCESS, TAPERHIVE_BODIES_COUNT };
 
@@ -44,6 +49,16 @@ uint32_t taperhive_answers(const uint8_t *file, size_t file_len, uint64_t *queue
 
 /* How many records the file has, into told[0]. */
 uint32_t taperhive_count(const uint8_t *file, size_t file_len, uint32_t *told, size_t told_len);
+
+/* Why record n of the file is safe at the moment t and the place u, v, each in 1/1,048,576 parts: the first box that the search discarded on the way from the whole domain down to that
+ * point, one level at a time, always into the half that holds it (the upper one on a boundary, except at 1). told's first nine numbers are written: level, depths of t, u, v, indices of t, u, v, axis, side.
+ *   a box of depth k and index i goes from i to i + 1 times 2^(20-k) parts, in each of t, u, v; the level is the sum of the depths
+ *   axis    0 x, 1 y, 2 z: the first, x before y before z, on which the bodies are further apart than the separation all over the box
+ *   side    0 below, 1 above: the side of the second body on which the first one is then
+ * The lent queue is all zero then. Returns 0, or why nothing was told: 8 to 13 of the file and the number, 1 to 6 of the record, 7 QUEUE, 23 OUTSIDE where the point is not in the domain (t, u, v at most
+ * 1,048,576, and for vertex-face u + v too), 14 where told has fewer than nine numbers, and then nothing lent is changed; last, 24 NOT RULED OUT where the search answers that moment or an earlier one: told
+ * is as it was, and the queue is all zero, since the search has used it. */
+uint32_t taperhive_why(const uint8_t *file, size_t file_len, size_t n, uint32_t t, uint32_t u, uint32_t v, uint64_t *queue, size_t queue_len, uint32_t *told, size_t told_len);
 
 /* Two bodies of triangles, a gangway and a hull, in one call: fifteen queries for each triangle of A with each of B (corners 1, 2, 3 of A with face B, those of B with
  * face A, then edges 12, 23, 31 of A each with 12, 23, 31 of B), pairs by A's triangle, then B's. Positions are nine numbers a triangle: x, y, z of its corners 1, 2, 3, once at the start and once at the

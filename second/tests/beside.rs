@@ -136,7 +136,7 @@ fn comparing_nothing_fails() {
     let library = library::<0>();
     let walk = Walk { library, sweep: &sweep, why: &why, folder: folder.clone() };
     assert!(!walk.run(1, Duration::ZERO));
-    assert!(walk.run(1, Duration::from_secs(2)));
+    assert!(walk.run(1, Duration::from_secs(6)));
     // Nothing is left of a comparison without a difference.
     assert_eq!(fs::read_dir(&folder).unwrap().count(), 0);
     fs::remove_dir_all(folder).unwrap();

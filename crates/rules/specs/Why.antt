@@ -49,6 +49,7 @@ goesUp InT k box at = inUpper (k .t) (box .t) (at .t)
 goesUp InU k box at = inUpper (k .u) (box .u) (at .u)
 goesUp InV k box at = inUpper (k .v) (box .v) (at .v)
 
+-- the half itself
 unfoldable pub holding : Parameter → Depths → Box → Three → Box
 holding p k box at = cond (goesUp p k box at) (highHalf p box) (lowHalf p box)
 

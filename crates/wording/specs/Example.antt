@@ -6,7 +6,7 @@ use Rattle.rules.specs.declared.Side.the-variants.{Below, Above}
 use Rattle.rules.specs.declared.Ruling.the-variants.{Refused}
 use Rattle.rules.specs.WhyExamples.{named}
 use Rattle.text.specs.Text.{ascii, digits, decimal, field}
-use Rattle.wording.specs.Line.{span, two, percent, share, spans, shares, head, three, box, ruledOut, numbered, refused, whyText}
+use Rattle.wording.specs.Line.{span, two, percent, share, spans, shares, head, three, levelText, indexText, box, ruledOut, numbered, refused, whyText}
 
 pub example-lines :
     map whyText
@@ -29,5 +29,5 @@ pub example-lines :
     ∷ "FILE 13\n"
     ∷ "FILE 15\n"
     ∷ [])
-unfolding digits decimal field span two percent share spans shares head three box ruledOut numbered refused
+unfolding digits decimal field span two percent share spans shares head three levelText indexText box ruledOut numbered refused
 example-lines = refl

@@ -76,8 +76,14 @@ head axis side = ascii "RULED OUT on " ++ (axisByte axis ∷ []) ++ ascii ", fir
 unfoldable pub three : Three → List ℕ
 three n = field (n .t) ++ field (n .u) ++ field (n .v)
 
+unfoldable pub levelText : Reason → List ℕ
+levelText x = ascii "); level" ++ field (x .level) ++ ascii ", depths" ++ three (x .depths)
+
+unfoldable pub indexText : Reason → List ℕ
+indexText x = ascii ", box" ++ three (x .index) ++ ascii "\n"
+
 unfoldable pub box : Reason → List ℕ
-box x = ascii "); level" ++ field (x .level) ++ ascii ", depths" ++ three (x .depths) ++ ascii ", box" ++ three (x .index) ++ ascii "\n"
+box x = levelText x ++ indexText x
 
 -- of a box that is named
 unfoldable pub ruledOut : Reason → List ℕ

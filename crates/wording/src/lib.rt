@@ -9,6 +9,8 @@ ghost use Rattle.wording.specs.Line.{
   axisByte,
   box,
   head,
+  indexText,
+  levelText,
   numbered,
   ofFile,
   percent,
@@ -138,20 +140,34 @@ fn write_three(out: &mut [u8], at: usize, n: Three) -> usize
     write_field(out, v_at, n.v as u32)
 }
 
+fn write_level(out: &mut [u8], at: usize, x: Reason) -> usize
+    requires { ⌜ (at + 60 ≤ length (now out)) × OnGrid x ⌝ }
+    ensures { λ r. ⌜ Wrote 60 (now (out .entry)) at (levelText x) (now (out .exit)) r ⌝ }
+{
+    let k = x.depths;
+    let level_at = write_text(out, at, b"); level");
+    let word_at = write_field(out, level_at, x.level as u32);
+    let depths_at = write_text(out, word_at, b", depths");
+    write_three(out, depths_at, k)
+}
+
+fn write_index(out: &mut [u8], at: usize, x: Reason) -> usize
+    requires { ⌜ (at + 39 ≤ length (now out)) × OnGrid x ⌝ }
+    ensures { λ r. ⌜ Wrote 39 (now (out .entry)) at (indexText x) (now (out .exit)) r ⌝ }
+{
+    let i = x.index;
+    let index_at = write_text(out, at, b", box");
+    let end_at = write_three(out, index_at, i);
+    write_byte(out, end_at, b'\n')
+}
+
 // The level, the depths and the box, to the end of the line.
 fn write_box(out: &mut [u8], at: usize, x: Reason) -> usize
     requires { ⌜ (at + 99 ≤ length (now out)) × OnGrid x ⌝ }
     ensures { λ r. ⌜ Wrote 99 (now (out .entry)) at (box x) (now (out .exit)) r ⌝ }
 {
-    let k = x.depths;
-    let i = x.index;
-    let level_at = write_text(out, at, b"); level");
-    let depths_at = write_field(out, level_at, x.level as u32);
-    let k_at = write_text(out, depths_at, b", depths");
-    let box_at = write_three(out, k_at, k);
-    let i_at = write_text(out, box_at, b", box");
-    let end_at = write_three(out, i_at, i);
-    write_byte(out, end_at, b'\n')
+    let index_at = write_level(out, at, x);
+    write_index(out, index_at, x)
 }
 
 fn write_ruled_out(out: &mut [u8], x: Reason) -> usize

@@ -1,7 +1,8 @@
 -- The three parameters, whose ends are those of the cell.
 use borrow.Author.Needs.{needs}
 use mathlib.Core.Path.{subst}
-use mathlib.Core.List.{_++_}
+use mathlib.Core.List.{List, _++_}
+use Prim.Native.Nat.{ℕ}
 use native.Mathlib.Omega.{arith}
 use Rattle.text.proofs.Writing.{then, roomier}
 use Rattle.text.specs.Text.{ascii}
@@ -10,6 +11,10 @@ use Rattle.gap.specs.declared.cell.Cell.{Cell}
 use Rattle.wording.specs.Line.{share, shares}
 use Rattle.wording.proofs.write_shares.Statement.{statement}
 use Rattle.wording.proofs.write_shares.Tie as tie
+
+-- the text by the ends of the cell
+abbrev by-cell : Cell → List ℕ
+by-cell x = share (x .t0) (x .t1) ++ ascii ", " ++ share (x .u0) (x .u1) ++ ascii ", " ++ share (x .v0) (x .v1)
 
 cell-of-requires : tie.Need-cell-of-requires
 cell-of-requires c κs = search needs
@@ -49,7 +54,7 @@ returns c =
     let s = w1 .before .before .before .before in
     let room = s .pre .0 in
     let e = then (then (then (then (w1 .write-share .ensures) (w2 .write-text .ensures) (omega (arith, room))) (w3 .write-share2 .ensures) (omega (arith, room))) (w4 .write-text2 .ensures) (omega (arith, room))) (w5 .write-share3 .ensures) (omega (arith, room)) in
-    subst (λ (x : Cell). Wrote 106 (s .args .out .now) (s .args .at) (share (x .t0) (x .t1) ++ ascii ", " ++ share (x .u0) (x .u1) ++ ascii ", " ++ share (x .v0) (x .v1)) (w5 .write-share3 .last .0) (w5 .write-share3 .result)) (w1 .before .before .cell-of .ensures .is) (roomier e (omega (arith, e .few)))
+    subst (λ (x : Cell). Wrote 106 (s .args .out .now) (s .args .at) (by-cell x) (w5 .write-share3 .last .0) (w5 .write-share3 .result)) (w1 .before .before .cell-of .ensures .is) (roomier e (omega (arith, e .few)))
 
 pub write-shares-spec : {M : Type 1} → statement M
 write-shares-spec =
