@@ -27,7 +27,7 @@ use rules::Side;
 use rules::Stop;
 use rules::Three;
 use search::deepen;
-use search::search_accepted;
+use search::search_levels;
 
 // Whether a point, in parts, is inside the domain. A sum is taken only of numbers that are.
 fn in_domain(r: Record, at: Three) -> bool
@@ -128,7 +128,7 @@ fn half(p: Pair, at: Three, s: Stop) -> Stop
 {
     let k = s.depths;
     let i = s.index;
-    let split = gap::split(p, k);
+    let split = gap::rare_split(p, k);
     let depths = deepen(split, k);
     let index = holding(split, k, i, at);
     Stop { depths, index }
@@ -199,7 +199,7 @@ pub fn why_accepted(r: Record, at: Three, queue: &mut [u64]) -> Ruling
     ensures { λ a. ⌜ now (queue .exit) ≡ replicate (length (now (queue .entry))) 0 ⌝ }
 {
     clear(queue);
-    let a = search_accepted(r, queue);
+    let a = search_levels(r, queue);
     if !is_before(a, at.t) {
         return Ruling::Refused(24);
     }

@@ -4,8 +4,8 @@ use Rattle.descent.proofs.Going.{halves}
 use Rattle.descent.proofs.half.Statement.{statement}
 use Rattle.descent.proofs.half.Tie as tie
 
-split-requires : tie.Need-split-requires
-split-requires c κs = search needs
+rare-split-requires : tie.Need-rare-split-requires
+rare-split-requires c κs = search needs
 
 deepen-requires : tie.Need-deepen-requires
 deepen-requires c κs = search needs
@@ -13,12 +13,12 @@ deepen-requires c κs = search needs
 holding-requires : tie.Need-holding-requires
 holding-requires c κs =
     let s = c .before .before .before .before in
-    rw (c .before .split .ensures) (halves (s .args .p) (s .args .s) (s .pre))
+    rw (c .before .rare-split .ensures) (halves (s .args .p) (s .args .s) (s .pre))
 
 returns : tie.Need-returns
 returns c =
     let d = c .before in
-    rw (c .holding .ensures, d .deepen .ensures, d .before .split .ensures)
+    rw (c .holding .ensures, d .deepen .ensures, d .before .rare-split .ensures)
 
 pub half-spec : {M : Type 1} → statement M
-half-spec = tie.close (tie.spec split-requires deepen-requires holding-requires returns)
+half-spec = tie.close (tie.spec rare-split-requires deepen-requires holding-requires returns)

@@ -15,8 +15,8 @@ use Rattle.descent.proofs.why_accepted.Tie as tie
 clear-requires : tie.Need-clear-requires
 clear-requires c κs = search needs
 
-search-accepted-requires : tie.Need-search-accepted-requires
-search-accepted-requires c κs =
+search-levels-requires : tie.Need-search-levels-requires
+search-levels-requires c κs =
     let u = c .before .before .before in
     let s = u .before .before .before in
     record {
@@ -33,7 +33,7 @@ same-length c = search needs
 returns : tie.Need-returns
 returns c =
     let w = c .before .before .before .before in
-    let z = w .search-accepted .ensures in
+    let z = w .search-levels .ensures in
     let u = w .before .before .before .before in
     let s = u .before .before .before in
     let found = z .0 ∙ ap (searched (s .args .r)) (u .clear .kept .0) in
@@ -45,7 +45,7 @@ from-whole-requires c κs =
     let w = c .before .before .before .before in
     let u = w .before .before .before .before in
     let s = u .before .before .before in
-    ap (λ (words : ℕ). searchRefusal (s .args .r) words) (w .search-accepted .kept .1 .0 ∙ u .clear .kept .0) ∙ own-none (s .args .r) (length (s .args .queue .now)) (s .args .at) (s .pre)
+    ap (λ (words : ℕ). searchRefusal (s .args .r) words) (w .search-levels .kept .1 .0 ∙ u .clear .kept .0) ∙ own-none (s .args .r) (length (s .args .queue .now)) (s .args .at) (s .pre)
 
 same-length-2 : tie.Need-same-length-2
 same-length-2 c = search needs
@@ -54,12 +54,12 @@ returns-2 : tie.Need-returns-2
 returns-2 c =
     let i = c .before in
     let w = i .before .before .before .before in
-    let z = w .search-accepted .ensures in
+    let z = w .search-levels .ensures in
     let u = w .before .before .before .before in
     let s = u .before .before .before in
     let found = z .0 ∙ ap (searched (s .args .r)) (u .clear .kept .0) in
     let soon = ap (λ (a : Answer). isBefore a (s .args .at .t)) (sym found) ∙ sym (i .before .is-before .ensures) ∙ not-false _ (i .if1 .left) in
-    let words = w .search-accepted .kept .1 .0 ∙ u .clear .kept .0 in
+    let words = w .search-levels .kept .1 .0 ∙ u .clear .kept .0 in
     (c .from-whole .ensures ∙ ap (λ (n : ℕ). fromWhole (s .args .r) n (s .args .at)) words ∙ its-box (s .args .r) (length (s .args .queue .now)) (s .args .at) (s .pre) soon, z .1 .0 ∙ u .clear .ensures)
 
 pub why-accepted-spec : {M : Type 1} → statement M
@@ -67,7 +67,7 @@ why-accepted-spec =
     tie.close
     (tie.spec
     clear-requires
-    search-accepted-requires
+    search-levels-requires
     is-before-requires
     same-length
     returns
