@@ -50,10 +50,14 @@ module _ (n m : ℕ) (all left ps qs : List Asked) (before queue : List ℕ) (fi
   none-left : All (λ q. searchRefusal (q .ask) (length before) ≡ 0) (ps ++ qs)
   none-left = subst (All (λ q. searchRefusal (q .ask) (length before) ≡ 0)) e (g .none)
 
+  -- none of the next part is refused
+  pub going-first : All (λ q. searchRefusal (q .ask) (length before) ≡ 0) ps
+  going-first = parts (λ q. searchRefusal (q .ask) (length before) ≡ 0) ps qs none-left .0
+
   pub going-asks : (room : ℕ) → n + m ≤ room → before ≡ replicate (length before) 0 → SumRoom room first → ToHear m ps queue sofar
   going-asks room l z s =
       subst (λ (w : List ℕ). ToHear m ps w sofar) (sym (g .kept))
-      (record { none = parts (λ q. searchRefusal (q .ask) (length before) ≡ 0) ps qs none-left .0; zero = z; room = omega (arith, g .grows, s, l) })
+      (record { none = going-first; zero = z; room = omega (arith, g .grows, s, l) })
 
   pub going-more : (next : ℕ) → n + m ≤ next → (queue′ : List ℕ) (r : BodyAnswer) → Heard m ps queue queue′ sofar r → Going next all qs before queue′ first r
   going-more next l queue′ r h =
@@ -64,6 +68,10 @@ module _ (n m : ℕ) (all left ps qs : List Asked) (before queue : List ℕ) (fi
         kept = h .kept ∙ g .kept;
         grows = omega (arith, g .grows, h .grows, l);
       }
+
+-- one stretch, and then another
+pub going-then : {n m : ℕ} {all left rest : List Asked} {before queue : List ℕ} {first sofar r : BodyAnswer} → Going n all left before before first sofar → Going m left rest before queue sofar r → Going (n + m) all rest before queue first r
+going-then g h = record { same = g .same ∙ h .same; none = h .none; kept = h .kept; grows = omega (arith, g .grows, h .grows) }
 
 pub going-all : (n m : ℕ) (all left : List Asked) (before queue : List ℕ) (first sofar : BodyAnswer) → Going n all left before queue first sofar → left ≡ [] → n ≤ m
     → Heard m all before queue first sofar

@@ -2,33 +2,27 @@
 -- A triangle reaches over its parallelogram, the fourth corner too, since the level 0 box of a face reaches it (document 02, R-9).
 use mathlib.Core.Path.{_≡_, refl, sym, ap, _∙_, subst}
 use mathlib.Core.Bool.{Bool, true, false, cond, _&&_}
-use mathlib.Core.Logic.{_⊎_, inl, inr, ⊎-elim}
 use mathlib.Core.List.{List, [], _∷_}
-use Prim.Native.Nat.{ℕ, zero, suc, _+_, _*_, _≤_, _<_}
+use Prim.Native.Nat.{ℕ, zero, suc, _+_, _-_, _*_, _≤_, _<_}
 use native.Mathlib.Omega.{arith}
 use lib.IntN.{ℤ, pos, negℤ, _+ℤ_, _-ℤ_}
 use lib.ListN.{length, getD}
-use lib.Dec.{ltb, eqb, lit<, lit≤}
-use borrow.Author.Tests.{ne-eqb}
+use lib.Dec.{ltb, lit<}
 use lib.Signed.{_≤ℤ_, _<ℤ_, leZ, ≤ℤ-refl}
 use Rattle.whole.specs.Defs.{minZ, maxZ}
 use Rattle.whole.specs.View.{minus-view, neg-up, neg-dn, zed}
 use Rattle.whole.specs.Order.{≤ℤ-trans, +ℤ-mono, min-le, le-max, min-pick, max-pick, lt-leZ}
 use Rattle.whole.specs.Ring.{var, num, _:+_, _:-_, ring}
 use Rattle.rules.specs.declared.Record.{Record}
-use Rattle.rules.specs.declared.Answer.{Answer}
 use Rattle.rules.specs.declared.Answer.the-variants.{Clear}
-use Rattle.rules.specs.declared.BodyAnswer.{BodyAnswer}
-use Rattle.rules.specs.declared.BodyAnswer.the-variants.{Clear as BodyClear, Least, Refused}
 use Rattle.rules.specs.declared.Terms.{Terms}
 use Rattle.rules.specs.declared.Ask.{Ask}
 use Rattle.rules.specs.declared.Axis.{Axis}
 use Rattle.rules.specs.declared.Axis.the-variants.{X, Y, Z}
-use Rattle.rules.specs.Gap.{place, separationOn}
+use Rattle.rules.specs.Gap.{place}
 use Rattle.rules.specs.Refusals.{searchRefusal}
-use Rattle.rules.specs.Answers.{told}
 use Rattle.rules.specs.Search.{search}
-use Rattle.rules.specs.Bodies.{Body, Asked, sumOf, counted, heard, hearAll, face, edges, fifteen, cornerPlace, askOf, askedFrom, pairQueries}
+use Rattle.rules.specs.Bodies.{face, edges, fifteen, cornerPlace, askOf, askedFrom, pairQueries}
 use Rattle.kernel.specs.declared.Kernel.{Kernel}
 use Rattle.gap.specs.declared.span.Span.{Span}
 use Rattle.gap.specs.Corners.{meets, joined}
@@ -258,6 +252,27 @@ pub data DistantFrom (w : Terms) (r : Reach) (b0 b1 : List ℤ) (j : ℕ) : Type
 pub by-reach : {w : Terms} {a0 a1 b0 b1 : List ℤ} {i j : ℕ} {r : Reach} → ReachIs a0 a1 i r → DistantFrom w r b0 b1 j → Distant w a0 a1 b0 b1 i j
 by-reach {w} {a0} {a1} {b0} {b1} {i} {j} h (distant-from axis f) = distant axis (subst (λ (P : Span). Further P (reachAt b0 b1 (9 * j + place axis)) (separationIn w axis)) (h .is axis) f)
 
+-- m triangles of B from one on are so apart
+abbrev pub AllApart : Terms → Reach → List ℤ → List ℤ → ℕ → ℕ → Type 0
+AllApart w r b0 b1 from zero = Unit
+AllApart w r b0 b1 from (suc m) = AllApart w r b0 b1 from m × DistantFrom w r b0 b1 (from + m)
+
+-- every one from one on, before another
+pub record Passed (w : Terms) (r : Reach) (b0 b1 : List ℤ) (from n near : ℕ) : Type 0 where
+  pub later : from ≤ near
+  pub most : near ≤ n
+  pub apart : AllApart w r b0 b1 from (near - from)
+
+module _ {w : Terms} {r : Reach} {b0 b1 : List ℤ} {from n : ℕ} where
+  pub passed-none : from ≤ n → Passed w r b0 b1 from n from
+  passed-none l = let e : 0 ≡ from - from = omega arith in record { later = omega arith; most = l; apart = subst (AllApart w r b0 b1 from) e tt }
+
+  pub passed-more : {near : ℕ} → Passed w r b0 b1 from n near → near < n → DistantFrom w r b0 b1 near → Passed w r b0 b1 from n (near + 1)
+  passed-more {near} p l d =
+      let here : near ≡ from + (near - from) = omega (arith, p .later) in
+      let more : suc (near - from) ≡ near + 1 - from = omega (arith, p .later) in
+      record { later = omega (arith, p .later); most = omega arith; apart = subst (AllApart w r b0 b1 from) more (p .apart, subst (DistantFrom w r b0 b1) here d) }
+
 -- ---- the fifteen queries
 
 -- where a corner's coordinate on an axis stands
@@ -437,42 +452,3 @@ module _ (w : Terms) (a0 a1 b0 b1 : List ℤ) (i j words : ℕ) where
       each-clear axis 1 fifteen
       (m 0 (lit< tt), (m 1 (lit< tt), (m 2 (lit< tt), (m 3 (lit< tt), (m 4 (lit< tt), (m 5 (lit< tt), (m 6 (lit< tt), (m 7 (lit< tt), (m 8 (lit< tt), (m 9 (lit< tt), (m 10 (lit< tt), (m 11 (lit< tt), (m 12 (lit< tt), (m 13 (lit< tt), (m 14 (lit< tt), tt)))))))))))))))
       h
-
--- ---- and heard
-
-counted-none : (a : BodyAnswer) → counted 0 a ≡ a
-unfolding counted
-counted-none (BodyClear sum) = let e : sum + 0 ≡ sum = omega arith in ap BodyClear e
-counted-none (Least t a b query word excess sum) = let e : sum + 0 ≡ sum = omega arith in ap (Least t a b query word excess) e
-counted-none (Refused n) = refl
-
-counted-more : (n : ℕ) (a : BodyAnswer) → counted n (counted 1 a) ≡ counted (suc n) a
-unfolding counted
-counted-more n (BodyClear sum) = let e : sum + 1 + n ≡ sum + suc n = omega arith in ap BodyClear e
-counted-more n (Least t a b query word excess sum) = let e : sum + 1 + n ≡ sum + suc n = omega arith in ap (Least t a b query word excess) e
-counted-more n (Refused number) = refl
-
-pub counted-sum : (n : ℕ) (a : BodyAnswer) → sumOf (counted n a) ≤ sumOf a + n
-unfolding counted sumOf
-counted-sum n (BodyClear sum) = omega arith
-counted-sum n (Least t a b query word excess sum) = omega arith
-counted-sum n (Refused number) = omega arith
-
-heard-clear : (sofar : BodyAnswer) (q : Asked) → heard sofar q (told (Clear 1)) ≡ counted 1 sofar
-unfolding heard
-heard-clear sofar q = refl
-
-pub hear-clear : (words : ℕ) (sofar : BodyAnswer) (qs : List Asked) → All (λ q. search (q .ask) words ≡ Clear 1) qs → hearAll words sofar qs ≡ counted (length qs) sofar
-unfolding All hearAll
-hear-clear words sofar [] h = sym (counted-none sofar)
-hear-clear words sofar (q ∷ qs) h =
-    ap (λ (a : Answer). hearAll words (heard sofar q (told a)) qs) (h .0)
-    ∙ ap (λ (x : BodyAnswer). hearAll words x qs) (heard-clear sofar q)
-    ∙ hear-clear words (counted 1 sofar) qs (h .1)
-    ∙ counted-more (length qs) sofar
-
-pub pair-heard : (w : Terms) (a0 a1 b0 b1 : List ℤ) (i j words : ℕ) (sofar : BodyAnswer) → Distant w a0 a1 b0 b1 i j
-    → All (λ q. searchRefusal (q .ask) words ≡ 0) (pairQueries w (positions a0 a1) (positions b0 b1) i j)
-    → counted 15 sofar ≡ hearAll words sofar (pairQueries w (positions a0 a1) (positions b0 b1) i j)
-unfolding askedFrom
-pair-heard w a0 a1 b0 b1 i j words sofar (distant axis f) h = sym (hear-clear words sofar (pairQueries w (positions a0 a1) (positions b0 b1) i j) (pair-clear w a0 a1 b0 b1 i j words axis f h))

@@ -5,4 +5,5 @@ pub mod Coordinates
 pub mod Check
 pub mod Walk
 pub mod Apart
+pub mod Counted
 pub mod Telling

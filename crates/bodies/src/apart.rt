@@ -1,11 +1,11 @@
 // Two triangles that are further apart on an axis than the separation: all their queries miss over the whole cube, so that none is asked.
 ghost use mathlib.Core.Path.{_≡_};
 ghost use mathlib.Core.Bool.{true};
-ghost use Prim.Native.Nat.{_+_, _≤_};
+ghost use Prim.Native.Nat.{_+_, _*_, _≤_};
 ghost use lib.ListN.{length};
 ghost use Rattle.gap.specs.Cube.{Wide, cubeMost};
 ghost use Rattle.gap.specs.Steps.{SmallSpan};
-ghost use Rattle.bodies.specs.Apart.{triangleAt, reachAt, Further, HasTriangle, ReachIs, WideReach, DistantFrom};
+ghost use Rattle.bodies.specs.Apart.{triangleAt, reachAt, Further, HasTriangle, ReachIs, WideReach, DistantFrom, Passed};
 use gap::cube::over_cube;
 use gap::span::Span;
 use kernel::Kernel;
@@ -82,4 +82,19 @@ pub fn are_distant(w: Terms, r: Reach, s: &[i32], e: &[i32], j: usize) -> bool
         return true;
     }
     apart_on(r.y, s, e, 9 * j + Y, w.dy)
+}
+
+// The first triangle of B, from one on, that is not so apart; n where all are.
+pub fn next_near(w: Terms, r: Reach, s: &[i32], e: &[i32], from: usize, n: usize) -> usize
+    requires { ⌜ WideReach r × ((from ≤ n) × ((9 * n ≤ length (now s)) × (9 * n ≤ length (now e)))) ⌝ }
+    ensures { λ near. ⌜ Passed w r (now (s .entry)) (now (e .entry)) from n near ⌝ }
+{
+    let mut j = from;
+    while j < n {
+        if !are_distant(w, r, s, e, j) {
+            return j;
+        }
+        j += 1;
+    }
+    j
 }

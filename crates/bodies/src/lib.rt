@@ -3,13 +3,11 @@ ghost use mathlib.Core.Path.{_≡_};
 ghost use lib.ListN.{length};
 ghost use Rattle.rules.specs.declared.BodyAnswer.the-variants.{Clear};
 ghost use Rattle.rules.specs.Bodies.{isBody, pairQueries, queriesOf, bodyRefusal};
-ghost use Rattle.bodies.specs.Apart.{ReachIs};
 ghost use Rattle.bodies.specs.Asking.{body};
 ghost use Rattle.bodies.specs.Telling.{Answered, Tells};
 ghost use Rattle.bodies.specs.Walk.{positions, OfQuery, OfPair, OfRow, OfBodies, Heard, queryAlone, rowQueries};
 use answers::numbers;
-use apart::Reach;
-use apart::are_distant;
+use apart::next_near;
 use apart::reach_of;
 use asking::query_at;
 use hearing::counted;
@@ -87,10 +85,9 @@ fn hear_query(
     heard(sofar, i as u32, j as u32, (1 + k) as u32, numbers(answer))
 }
 
-// The fifteen queries of the pair i, j; what triangle i reaches is at hand.
+// The fifteen queries of the pair i, j.
 fn hear_pair(
     w: Terms,
-    reach: Reach,
     a0: &[i32],
     a1: &[i32],
     b0: &[i32],
@@ -100,12 +97,9 @@ fn hear_pair(
     queue: &mut [u64],
     first: BodyAnswer,
 ) -> BodyAnswer
-    requires { ⌜ OfPair w (now a0) (now a1) (now b0) (now b1) i j (now queue) first × ReachIs (now a0) (now a1) i reach ⌝ }
+    requires { ⌜ OfPair w (now a0) (now a1) (now b0) (now b1) i j (now queue) first ⌝ }
     ensures { λ r. ⌜ Heard 15 (pairQueries w (positions (now (a0 .entry)) (now (a1 .entry))) (positions (now (b0 .entry)) (now (b1 .entry))) i j) (now (queue .entry)) (now (queue .exit)) first r ⌝ }
 {
-    if are_distant(w, reach, b0, b1, j) {
-        return counted(15, first);
-    }
     let mut sofar = first;
     let mut k = 0;
     while k < 15 {
@@ -115,7 +109,7 @@ fn hear_pair(
     sofar
 }
 
-// Triangle i of A with each of B.
+// Triangle i of A with each of B; those that are apart are passed over, and their fifteen counted.
 fn hear_row(
     w: Terms,
     a0: &[i32],
@@ -131,11 +125,13 @@ fn hear_row(
     ensures { λ r. ⌜ Heard 3840 (rowQueries w (positions (now (a0 .entry)) (now (a1 .entry))) (positions (now (b0 .entry)) (now (b1 .entry))) i n) (now (queue .entry)) (now (queue .exit)) first r ⌝ }
 {
     let reach = reach_of(a0, a1, i);
-    let mut sofar = first;
-    let mut j = 0;
+    let mut j = next_near(w, reach, b0, b1, 0, n);
+    let mut sofar = counted(15 * (j as u64), first);
     while j < n {
-        sofar = hear_pair(w, reach, a0, a1, b0, b1, i, j, queue, sofar);
-        j += 1;
+        let more = hear_pair(w, a0, a1, b0, b1, i, j, queue, sofar);
+        let near = next_near(w, reach, b0, b1, j + 1, n);
+        sofar = counted(15 * ((near - (j + 1)) as u64), more);
+        j = near;
     }
     sofar
 }

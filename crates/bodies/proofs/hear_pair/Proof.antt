@@ -1,10 +1,9 @@
 -- `bodies::hear_pair` meets its contract: query after query. Assumes nothing.
 use Prim.Native.Nat.{_-_, _≤_}
-use mathlib.Core.Path.{refl, ap, _∙_}
+use mathlib.Core.Path.{refl, ap}
 use native.Mathlib.Omega.{arith}
 use lib.ListN.{length}
-use Rattle.rules.specs.Bodies.{pairQueries, sumOf}
-use Rattle.bodies.specs.Apart.{by-reach, pair-heard, counted-sum}
+use Rattle.rules.specs.Bodies.{pairQueries}
 use Rattle.bodies.specs.Walk.{positions}
 use Rattle.bodies.proofs.Walking.{Going, going-none, going-asks, going-more, going-all, pairLeft, pair-next, pair-end}
 use Rattle.bodies.proofs.hear_pair.Statement.{statement}
@@ -17,29 +16,13 @@ Inv-loop w a0 a1 b0 b1 i j queue₀ sofar₀ k₀ queue sofar k =
 abbrev μ-loop : tie.MeasureT-loop
 μ-loop w a0 a1 b0 b1 i j queue₀ sofar₀ k₀ queue sofar k = 15 - k
 
-are-distant-requires : tie.Need-are-distant-requires Inv-loop μ-loop
-are-distant-requires c κs =
-    let p = c .before .pre in
-    (p .1 .wide, (p .0 .start .of-b, p .0 .end .of-b))
-
-counted-requires : tie.Need-counted-requires Inv-loop μ-loop
-counted-requires c κs = omega (arith, c .before .before .before .pre .0 .to-hear .room)
-
-returns : tie.Need-returns Inv-loop μ-loop
-returns c =
-    let s = c .before .before .before .before in
-    let a = s .args in
-    let words = length (a .queue .now) in
-    let says = c .counted .ensures ∙ pair-heard (a .w) (a .a0 .now) (a .a1 .now) (a .b0 .now) (a .b1 .now) (a .i) (a .j) words (a .first) (by-reach (s .pre .1) (c .before .before .are-distant .ensures (c .before .if1 .taken))) (s .pre .0 .to-hear .none) in
-    record { says = says; kept = refl; grows = omega (arith, ap sumOf (c .counted .ensures), counted-sum 15 (a .first)) }
-
 loop-holds : tie.Need-loop-holds Inv-loop μ-loop
-loop-holds c = (omega arith, going-none 15 _ _ _ _ refl (c .before .before .before .pre .0 .to-hear))
+loop-holds c = (omega arith, going-none 15 _ _ _ _ refl (c .before .pre .to-hear))
 
 hear-query-requires : tie.Need-hear-query-requires Inv-loop μ-loop
 hear-query-requires c κs =
     let l = c .before .before in
-    let p = l .before .before .before .before .pre .0 in
+    let p = l .before .before .pre in
     record {
       start = p .start;
       end = p .end;
@@ -63,8 +46,8 @@ loop-again c =
 same-length : tie.Need-same-length Inv-loop μ-loop
 same-length c = ap length (c .before .loop .inv .1 .kept)
 
-returns-2 : tie.Need-returns-2 Inv-loop μ-loop
-returns-2 c =
+returns : tie.Need-returns Inv-loop μ-loop
+returns c =
     let l = c .before in
     going-all _ 15 _ _ _ _ _ _ (l .loop .inv .1) (pair-end _ _ _ _ _ (l .loop .k) (omega arith)) (l .loop .inv .0)
 
@@ -74,13 +57,10 @@ hear-pair-spec =
     (tie.spec
     Inv-loop
     μ-loop
-    are-distant-requires
-    counted-requires
-    returns
     loop-holds
     hear-query-requires
     add-k
     loop-less
     loop-again
     same-length
-    returns-2)
+    returns)

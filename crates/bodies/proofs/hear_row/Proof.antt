@@ -1,61 +1,127 @@
--- `bodies::hear_row` meets its contract: pair after pair. Assumes nothing.
-use Prim.Native.Nat.{_*_, _-_, _≤_}
-use mathlib.Core.Path.{ap}
+-- `bodies::hear_row` meets its contract: pair after pair, those that are apart passed over. Assumes nothing.
+use Prim.Native.Nat.{_+_, _*_, _-_, _≤_}
+use mathlib.Core.Path.{_≡_, refl, ap}
 use native.Mathlib.Omega.{arith}
 use lib.ListN.{length}
 use Rattle.rules.specs.Bodies.{pairQueries}
 use Rattle.bodies.specs.Walk.{positions, rowQueries}
-use Rattle.bodies.proofs.Walking.{Going, going-none, going-asks, going-more, going-all, eachLeft, each-start, each-next, each-end}
+use Rattle.bodies.proofs.Walking.{Going, going-none, going-asks, going-more, going-then, going-all, eachLeft, each-start, each-next, each-end}
+use Rattle.bodies.proofs.Passing.{passed-over}
 use Rattle.bodies.proofs.hear_row.Statement.{statement}
 use Rattle.bodies.proofs.hear_row.Tie as tie
 
+-- what was heard since the loop's start
 abbrev Inv-loop : tie.InvT-loop
-Inv-loop w a0 a1 i n b0 b1 queue₀ reach sofar₀ j₀ queue sofar j =
-    (j ≤ n)
-    × Going (j * 15) (rowQueries w (positions a0 a1) (positions b0 b1) i n) (eachLeft n (λ j. pairQueries w (positions a0 a1) (positions b0 b1) i j) j) queue₀ queue sofar₀ sofar
+Inv-loop w a0 a1 i n b0 b1 queue₀ reach j₀ sofar₀ queue j sofar =
+    (j₀ ≤ j)
+    × ((j ≤ n)
+    × Going (15 * (j - j₀)) (eachLeft n (λ j. pairQueries w (positions a0 a1) (positions b0 b1) i j) j₀) (eachLeft n (λ j. pairQueries w (positions a0 a1) (positions b0 b1) i j) j) queue₀ queue sofar₀ sofar)
 
 abbrev μ-loop : tie.MeasureT-loop
-μ-loop w a0 a1 i n b0 b1 queue₀ reach sofar₀ j₀ queue sofar j = n - j
+μ-loop w a0 a1 i n b0 b1 queue₀ reach j₀ sofar₀ queue j sofar = n - j
 
 reach-of-requires : tie.Need-reach-of-requires Inv-loop μ-loop
 reach-of-requires c κs = (c .before .pre .start-of-a, c .before .pre .end-of-a)
 
+next-near-requires : tie.Need-next-near-requires Inv-loop μ-loop
+next-near-requires c κs =
+    let p = c .before .before .pre in
+    (c .reach-of .ensures .wide, (omega arith, (p .start-of-b, p .end-of-b)))
+
+mul-counted : tie.Need-mul-counted Inv-loop μ-loop
+mul-counted c = omega (arith, c .next-near .ensures .most, c .before .before .before .pre .count)
+
+counted-requires : tie.Need-counted-requires Inv-loop μ-loop
+counted-requires c κs = omega (arith, c .next-near .ensures .most, c .before .before .before .pre .count, c .before .before .before .pre .to-hear .room)
+
+-- what was heard until then: the first that are apart were passed over
+begun : (c : tie.After-counted Inv-loop μ-loop)
+    → let j = c .before .next-near .result in
+    let a = c .before .before .before .before .args in
+    Going (15 * j) (rowQueries (a .w) (positions (a .a0 .now) (a .a1 .now)) (positions (a .b0 .now) (a .b1 .now)) (a .i) (a .n))
+    (eachLeft (a .n) (λ j. pairQueries (a .w) (positions (a .a0 .now) (a .a1 .now)) (positions (a .b0 .now) (a .b1 .now)) (a .i) j) j) (a .queue .now) (a .queue .now) (a .first) (c .counted .result)
+begun c =
+    let near = c .before .next-near in
+    let s = c .before .before .before .before in
+    let a = s .args in
+    let e : near .result ≡ near .result - 0 = omega arith in
+    let t : 0 + 15 * near .result ≡ 15 * near .result = omega arith in
+    passed-over (a .w) (a .a0 .now) (a .a1 .now) (a .b0 .now) (a .b1 .now) (a .i) (a .n) (c .before .before .reach-of .ensures) _ _ _ _ (near .ensures) e (c .counted .ensures) _ t (going-none 3840 _ _ _ _ (each-start _ _) (s .pre .to-hear))
+
 loop-holds : tie.Need-loop-holds Inv-loop μ-loop
-loop-holds c = (omega arith, going-none 3840 _ _ _ _ (each-start _ _) (c .before .before .pre .to-hear))
+loop-holds c =
+    let near = c .before .next-near in
+    let g = begun c in
+    let e : 0 ≡ 15 * (near .result - near .result) = omega arith in
+    (omega arith, (near .ensures .most, record { same = refl; none = g .none; kept = refl; grows = omega arith }))
 
 hear-pair-requires : tie.Need-hear-pair-requires Inv-loop μ-loop
 hear-pair-requires c κs =
     let l = c .before .before in
-    let p = l .before .before .before .pre in (
-      record {
-        start = record { of-a = p .start-of-a; of-b = omega (arith, p .start-of-b) };
-        end = record { of-a = p .end-of-a; of-b = omega (arith, p .end-of-b) };
-        first = p .first;
-        second = omega (arith, p .count);
-        to-hear = going-asks _ 15 _ _ _ _ _ _ _ _ (l .loop .inv .1) (each-next _ _ (l .loop .j) (omega arith)) 3840 (omega (arith, p .count)) (p .to-hear .zero) (p .to-hear .room);
-      },
-      l .before .reach-of .ensures,
-    )
+    let p = l .before .before .before .before .before .pre in
+    let v = l .loop .inv in
+    record {
+      start = record { of-a = p .start-of-a; of-b = omega (arith, p .start-of-b) };
+      end = record { of-a = p .end-of-a; of-b = omega (arith, p .end-of-b) };
+      first = p .first;
+      second = omega (arith, p .count);
+      to-hear = going-asks _ 15 _ _ _ _ _ _ _ _ (going-then (begun (l .before)) (v .1 .1)) (each-next _ _ (l .loop .j) (omega arith)) 3840 (omega (arith, p .count, v .0)) (p .to-hear .zero) (p .to-hear .room);
+    }
 
-add-j : tie.Need-add-j Inv-loop μ-loop
-add-j c = omega arith
+add-next-near : tie.Need-add-next-near Inv-loop μ-loop
+add-next-near c = omega arith
+
+next-near-requires-2 : tie.Need-next-near-requires-2 Inv-loop μ-loop
+next-near-requires-2 c κs =
+    let l = c .before .before .before .before .before in
+    let p = l .before .before .before .before .before .pre in
+    (l .before .before .before .reach-of .ensures .wide, (omega arith, (p .start-of-b, p .end-of-b)))
+
+add-counted : tie.Need-add-counted Inv-loop μ-loop
+add-counted c = omega arith
+
+sub-counted : tie.Need-sub-counted Inv-loop μ-loop
+sub-counted c = omega (arith, c .next-near2 .ensures .later)
+
+mul-counted-2 : tie.Need-mul-counted-2 Inv-loop μ-loop
+mul-counted-2 c =
+    let p = c .before .before .before .before .before .before .before .before .before .before .before .pre in
+    omega (arith, c .next-near2 .ensures .most, c .next-near2 .ensures .later, p .count)
+
+counted-requires-2 : tie.Need-counted-requires-2 Inv-loop μ-loop
+counted-requires-2 c κs =
+    let l = c .before .before .before .before .before .before in
+    let p = l .before .before .before .before .before .pre in
+    let g = going-then (begun (l .before)) (l .loop .inv .1 .1) in
+    omega (arith, c .next-near2 .ensures .most, c .next-near2 .ensures .later, p .count, p .to-hear .room, g .grows, c .before .before .before .hear-pair .ensures .grows, l .loop .inv .0)
 
 loop-less : tie.Need-loop-less Inv-loop μ-loop
-loop-less c = omega arith
+loop-less c = omega (arith, c .before .next-near2 .ensures .later, c .before .next-near2 .ensures .most)
 
 loop-again : tie.Need-loop-again Inv-loop μ-loop
 loop-again c =
-    let l = c .before .before .before .before .before in
-    (omega arith, going-more _ 15 _ _ _ _ _ _ _ _ (l .loop .inv .1) (each-next _ _ (l .loop .j) (omega arith)) _ (omega arith) _ _ (c .before .before .hear-pair .ensures))
+    let l = c .before .before .before .before .before .before .before in
+    let a = l .before .before .before .before .before .args in
+    let near = c .before .next-near2 in
+    let v = l .loop .inv in
+    let t : 15 * (l .loop .j - l .before .before .next-near .result) + 15 + 15 * (near .result - (l .loop .j + 1)) ≡ 15 * (near .result - l .before .before .next-near .result) = omega (arith, v .0, near .ensures .later) in (
+      omega (arith, v .0, near .ensures .later),
+      (
+        near .ensures .most,
+        passed-over (a .w) (a .a0 .now) (a .a1 .now) (a .b0 .now) (a .b1 .now) (a .i) (a .n) (l .before .before .before .reach-of .ensures) _ _ _ _ (near .ensures) refl (c .counted2 .ensures) _ t
+            (going-more _ 15 _ _ _ _ _ _ _ _ (v .1 .1) (each-next _ _ (l .loop .j) (omega arith)) _ (omega arith) _ _ (c .before .before .before .before .hear-pair .ensures)),
+      ),
+    )
 
 same-length : tie.Need-same-length Inv-loop μ-loop
-same-length c = ap length (c .before .loop .inv .1 .kept)
+same-length c = ap length (c .before .loop .inv .1 .1 .kept)
 
 returns : tie.Need-returns Inv-loop μ-loop
 returns c =
     let l = c .before in
-    let p = l .before .before .before .pre in
-    going-all _ 3840 _ _ _ _ _ _ (l .loop .inv .1) (each-end _ _ (l .loop .j) (omega arith)) (omega (arith, p .count))
+    let p = l .before .before .before .before .before .pre in
+    let v = l .loop .inv in
+    going-all _ 3840 _ _ _ _ _ _ (going-then (begun (l .before)) (v .1 .1)) (each-end _ _ (l .loop .j) (omega arith)) (omega (arith, p .count, v .0))
 
 pub hear-row-spec : {M : Type 1} → statement M
 hear-row-spec =
@@ -64,9 +130,17 @@ hear-row-spec =
     Inv-loop
     μ-loop
     reach-of-requires
+    next-near-requires
+    mul-counted
+    counted-requires
     loop-holds
     hear-pair-requires
-    add-j
+    add-next-near
+    next-near-requires-2
+    add-counted
+    sub-counted
+    mul-counted-2
+    counted-requires-2
     loop-less
     loop-again
     same-length
