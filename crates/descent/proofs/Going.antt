@@ -15,7 +15,6 @@ use Rattle.rules.specs.declared.Side.{Side}
 use Rattle.rules.specs.declared.Stop.{Stop}
 use Rattle.rules.specs.declared.Miss.{Miss}
 use Rattle.rules.specs.declared.Miss.the-variants.{Nowhere, On}
-use Rattle.rules.specs.declared.Ruling.{Ruling}
 use Rattle.rules.specs.declared.Ruling.the-variants.{Discarded, Refused}
 use Rattle.rules.specs.Search.{Query, full, split, deeper, lowHalf, highHalf}
 use Rattle.rules.specs.Why.{goesUp, holding, missed, halfOf, reasonOf, nameOr, descend}
@@ -23,7 +22,7 @@ use Rattle.kernel.specs.declared.Pair.{Pair}
 use Rattle.kernel.specs.Kernel.{asked}
 use Rattle.kernel.specs.Ranges.{Shallow, InGrid}
 use Rattle.queue.specs.Grid.{half-grid as grid-of-half}
-use Rattle.search.specs.Levels.{depthIn, total}
+use Rattle.search.specs.Levels.{depthIn}
 use Rattle.search.proofs.Deepening.{split-deepest, deeper-total, deeper-shallow}
 use Rattle.descent.specs.Way.{Halves, Good}
 

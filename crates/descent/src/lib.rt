@@ -1,6 +1,6 @@
 // Why a point was ruled out: from the whole domain down into the half that holds it, to the first box that was discarded.
 ghost use mathlib.Core.Path.{_≡_};
-ghost use Prim.Native.Nat.{_≤_, _<_, _^_};
+ghost use Prim.Native.Nat.{_<_, _^_};
 ghost use lib.Dec.{ltb};
 ghost use lib.ListN.{length, replicate};
 ghost use Rattle.rules.specs.Refusals.{searchRefusal};

@@ -1,6 +1,6 @@
 -- The lines of docs/DECISIONS.md.
 use mathlib.Core.Path.{_≡_, refl}
-use mathlib.Core.List.{List, [], _∷_, map}
+use mathlib.Core.List.{[], _∷_, map}
 use Rattle.rules.specs.declared.Axis.the-variants.{X, Z}
 use Rattle.rules.specs.declared.Side.the-variants.{Below, Above}
 use Rattle.rules.specs.declared.Ruling.the-variants.{Refused}

@@ -1,5 +1,5 @@
 -- The queue is cleared and lent to the search, which leaves it so.
-use mathlib.Core.Path.{_≡_, sym, ap, _∙_}
+use mathlib.Core.Path.{sym, ap, _∙_}
 use Prim.Native.Nat.{ℕ}
 use lib.ListN.{length, replicate}
 use borrow.Author.Needs.{needs}

@@ -15,7 +15,7 @@ use Rattle.rules.specs.declared.Reason.{Reason}
 use Rattle.rules.specs.declared.Ruling.{Ruling}
 use Rattle.rules.specs.declared.Ruling.the-variants.{Discarded, Refused}
 use Rattle.rules.specs.Numbers.{parts}
-use Rattle.rules.specs.Search.{Query, Box, Depths, low, survives, full, split, on, deeper, lowHalf, highHalf, origin}
+use Rattle.rules.specs.Search.{Query, Box, Depths, low, survives, full, split, on, deeper, lowHalf, highHalf}
 use Rattle.rules.specs.Why.{goesUp, holding, missed, wholeDomain, halfOf, nameOr, descend}
 use Rattle.promise.specs.Why.{In, pointed, down, Held, Holds, First}
 use Rattle.promise.proofs.Split.{Shallow, at as of, split-open, deeper-shallow, sum, deeper-sum}

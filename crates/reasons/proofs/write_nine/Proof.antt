@@ -1,11 +1,10 @@
 -- Two runs of four and a store right behind them; the numbers fit, since the box is one of the grid.
 use borrow.Author.Needs.{needs}
-use mathlib.Core.Path.{refl, ap, _∙_}
+use mathlib.Core.Path.{refl, _∙_}
 use mathlib.Core.List.{[], _∷_, _++_}
-use Prim.Native.Nat.{ℕ, _+_}
+use Prim.Native.Nat.{_+_}
 use native.Mathlib.Omega.{arith}
 use lib.ListN.{length-set}
-use Rattle.rules.specs.QueryFile.{put}
 use Rattle.gap.specs.Grid.{index-most}
 use Rattle.little.specs.Put.{put-one, one-more}
 use Rattle.reasons.proofs.write_nine.Statement.{statement}
