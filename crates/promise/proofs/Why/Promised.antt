@@ -17,9 +17,9 @@ use Rattle.rules.specs.Numbers.{parts}
 use Rattle.rules.specs.Gap.{OnBodies, isVertexFace}
 use Rattle.rules.specs.Answers.{told, hasMoment}
 use Rattle.rules.specs.Refusals.{first, orElse, searchRefusal}
-use Rattle.rules.specs.Search.{query, Checked, afterLevel, ifRoom, levels, run, search, unless}
-use Rattle.rules.specs.Why.{inDomain, isBefore, fromWhole, whyRefusal, unlessWhy, whySearch}
-use Rattle.promise.specs.Why.{pointed, whole, next, Own-levels, Named, Names-discarded, First, Names-the-first, NotYet, Named-exactly, Why-refused-exactly}
+use Rattle.rules.specs.Search.{Query, query, Checked, afterLevel, ifRoom, levels, run, search, unless}
+use Rattle.rules.specs.Why.{inDomain, isBefore, wholeDomain, fromWhole, whyRefusal, unlessWhy, whySearch}
+use Rattle.promise.specs.Why.{pointed, down, whole, next, Own-levels, WasDiscarded, Named, Names-discarded, First, Names-the-first, NotYet, Named-exactly, Why-refused-exactly}
 use Rattle.promise.proofs.Survive.{and-both, and-intro}
 use Rattle.promise.proofs.Domain.{Domain, on-bodies}
 use Rattle.promise.proofs.Accepted.{record-kernel}
@@ -156,6 +156,10 @@ names-the-first r words at x e = go (whyRefusal r words at) refl e
     go : (n : ℕ) → whyRefusal r words at ≡ n → unlessWhy n (fromWhole r words at) ≡ Discarded x → First (query r words) at x
     go zero f e = let d = to-domain r words at (none-due r words at f .1) in named-first at (query r words) x refl (whole-holds at (d .t) (d .u) (d .v)) e
     go (suc n) f e = let z : _≡_ {A = ℕ} 0 1 = cc in absurd (omega arith)
+
+-- so the search discarded none of the boxes before it
+pub none-before : (q : Query) (at : Three) (x : Reason) → First q at x → (n : ℕ) → n < x .level → WasDiscarded q (down q at n wholeDomain .depths) (down q at n wholeDomain .index) → ⊥
+none-before q at x f n h w = subst T (w .lost) (f .survived n h)
 
 -- what is not refused has its box
 pub has-box : (r : Record) (words : ℕ) (at : Three) → whyRefusal r words at ≡ 0 → (x : Reason) × (whySearch r words at ≡ Discarded x)
