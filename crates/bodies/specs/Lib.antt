@@ -4,6 +4,7 @@ pub mod OnePass
 pub mod Coordinates
 pub mod Check
 pub mod Walk
+pub mod Between
 pub mod Apart
 pub mod Counted
 pub mod Telling

@@ -6,7 +6,7 @@ use Rattle.whole.specs.Order.{ltZ-true}
 use Rattle.whole.specs.Read.{cast-back}
 use Rattle.whole.specs.Within.{fits, within-sub}
 use Rattle.gap.specs.Cube.{cube-within}
-use Rattle.bodies.specs.Apart.{over, under}
+use Rattle.bodies.specs.Between.{over, under}
 use borrow.Author.Needs.{needs}
 use Rattle.bodies.proofs.apart.apart_on.Statement.{statement}
 use Rattle.bodies.proofs.apart.apart_on.Tie as tie
