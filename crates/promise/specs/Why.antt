@@ -3,10 +3,10 @@
 use Prim.Native.Nat.{ℕ, zero, suc, _+_, _*_, _-_, _^_, _≤_, _<_}
 use mathlib.Core.Path.{_≡_}
 use mathlib.Core.Logic.{_↔_, _⊎_}
-use mathlib.Core.Bool.{false}
+use mathlib.Core.Bool.{Bool, false, _&&_}
 use mathlib.Core.List.{List, [], _∷_}
 use lib.IntN.{pos, negℤ}
-use lib.Signed.{_<ℤ_}
+use lib.Signed.{_<ℤ_, leZ}
 use lib.ListN.{length, take}
 use lib.Dec.{T, leb}
 use Rattle.rules.specs.declared.Record.{Record}
@@ -20,10 +20,10 @@ use Rattle.rules.specs.declared.Stop.{Stop}
 use Rattle.rules.specs.declared.Reason.{Reason}
 use Rattle.rules.specs.declared.Ruling.the-variants.{Discarded, Refused}
 use Rattle.rules.specs.Numbers.{parts}
-use Rattle.rules.specs.Gap.{Place, OnBodies}
+use Rattle.rules.specs.Gap.{Place, OnBodies, place}
 use Rattle.rules.specs.Answers.{told, hasMoment}
 use Rattle.rules.specs.Refusals.{searchRefusal}
-use Rattle.rules.specs.Search.{Query, query, Box, Depths, low, high, survives, Checked, answered, through, check, split, deeper, halves, origin, levels, run, search}
+use Rattle.rules.specs.Search.{Query, query, Box, Depths, low, high, unit, least, greatest, survives, Checked, answered, through, check, split, deeper, halves, origin, levels, run, search}
 use Rattle.rules.specs.Why.{wholeDomain, halfOf, whyRefusal, whySearch}
 
 -- ---- places and boxes
@@ -115,12 +115,18 @@ pub record Named (q : Query) (at : Three) (x : Reason) : Type 0 where
 abbrev pub Names-discarded : Type 0
 Names-discarded = (r : Record) (words : ℕ) (at : Three) (x : Reason) → whySearch r words at ≡ Discarded x → Named (query r words) at x
 
--- "the first box that was discarded": it is the box on the way at its level, the way goes as it must, and every box before it survived
+-- "when m is at most d and M at least -d" (document 01), on one axis
+abbrev pub reachedOn : Query → Depths → Box → Axis → Bool
+reachedOn q k box axis = leZ (least q k box axis) (pos (q .separation axis * unit)) && leZ (negℤ (pos (q .separation axis * unit))) (greatest q k box axis)
+
+-- "the first box that was discarded": it is the box on the way at its level, the way goes as it must, and every box before it survived; "x before y before z":
+-- no axis before the named one misses
 pub record First (q : Query) (at : Three) (x : Reason) : Type 0 where
   pub level : x .level ≡ x .depths .t + x .depths .u + x .depths .v
   pub on-the-way : down q at (x .level) wholeDomain ≡ record { depths = x .depths; index = x .index }
   pub held : (n : ℕ) → n ≤ x .level → Holds at (down q at n wholeDomain)
   pub survived : (n : ℕ) → n < x .level → T (survives q (down q at n wholeDomain .depths) (down q at n wholeDomain .index))
+  pub axes : (axis : Axis) → place axis < place (x .axis) → T (reachedOn q (x .depths) (x .index) axis)
 
 abbrev pub Names-the-first : Type 0
 Names-the-first = (r : Record) (words : ℕ) (at : Three) (x : Reason) → whySearch r words at ≡ Discarded x → First (query r words) at x

@@ -16,7 +16,7 @@ use Rattle.rules.specs.declared.Side.{Side}
 use Rattle.rules.specs.declared.Side.the-variants.{Above, Below}
 use Rattle.rules.specs.declared.Miss.{Miss}
 use Rattle.rules.specs.declared.Miss.the-variants.{Nowhere, On}
-use Rattle.rules.specs.Gap.{Place}
+use Rattle.rules.specs.Gap.{Place, place}
 use Rattle.rules.specs.Search.{Query, Box, Depths, unit, least, greatest, survives}
 use Rattle.rules.specs.Why.{missOn, missed, orNext}
 use Rattle.promise.specs.Why.{In, Beyond}
@@ -99,6 +99,44 @@ module _ (S : Query) (k : Depths) (box : Box) where
           each X = f
           each Y = g
           each Z = h
+
+  -- no axis before the named one misses
+  abbrev pub Before : Miss → Type 0
+  Before Nowhere = Unit {0}
+  Before (On axis side) = (other : Axis) → place other < place axis → T (reaches S k box other)
+
+  abbrev Own : Axis → Miss → Type 0
+  Own axis Nowhere = Unit {0}
+  Own axis (On other side) = place other ≡ place axis
+
+  own : (axis : Axis) → Own axis (missOn S k box axis)
+  unfolding missOn
+  own axis = go (leZ (least S k box axis) (limit axis)) (leZ (negℤ (limit axis)) (greatest S k box axis))
+    where
+      go : (x y : Bool) → Own axis (cond x (cond y Nowhere (On axis Below)) (On axis Above))
+      go true true = tt
+      go true false = refl
+      go false y = refl
+
+  pub before : Before (missed S k box)
+  unfolding missed
+  before = go (missOn S k box X) (missOn S k box Y) (missOn S k box Z) (own X) (own Y) (own Z) (says-on X) (says-on Y)
+    where
+      go : (x y z : Miss) → Own X x → Own Y y → Own Z z → SaysOn X x → SaysOn Y y → Before (orNext x (orNext y z))
+      go (On axis side) y z e _ _ f g = λ other h. absurd (omega (arith, e, h))
+      go Nowhere (On axis side) z _ e _ f g = λ other h. at other (omega (arith, e, h))
+        where
+          at : (other : Axis) → place other < 1 → T (reaches S k box other)
+          at X h = f
+          at Y h = absurd (omega arith)
+          at Z h = absurd (omega arith)
+      go Nowhere Nowhere (On axis side) _ _ e f g = λ other h. at other (omega (arith, e, h))
+        where
+          at : (other : Axis) → place other < 2 → T (reaches S k box other)
+          at X h = f
+          at Y h = g
+          at Z h = absurd (omega arith)
+      go Nowhere Nowhere Nowhere _ _ _ f g = tt
 
   -- so it did not survive
   pub fails-lost : (axis : Axis) (side : Side) → Fails axis side → survives S k box ≡ false

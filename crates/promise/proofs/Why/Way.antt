@@ -8,6 +8,7 @@ use lib.Dec.{T, eqb, eqb→eq, leb→le, nleb→lt}
 use Rattle.rules.specs.declared.Three.{Three}
 use Rattle.rules.specs.declared.Parameter.{Parameter}
 use Rattle.rules.specs.declared.Parameter.the-variants.{InT, InU, InV}
+use Rattle.rules.specs.declared.Axis.{Axis}
 use Rattle.rules.specs.declared.Miss.{Miss}
 use Rattle.rules.specs.declared.Miss.the-variants.{Nowhere, On}
 use Rattle.rules.specs.declared.Stop.{Stop}
@@ -15,12 +16,14 @@ use Rattle.rules.specs.declared.Reason.{Reason}
 use Rattle.rules.specs.declared.Ruling.{Ruling}
 use Rattle.rules.specs.declared.Ruling.the-variants.{Discarded, Refused}
 use Rattle.rules.specs.Numbers.{parts}
+use Rattle.rules.specs.Gap.{place}
 use Rattle.rules.specs.Search.{Query, Box, Depths, low, survives, full, split, on, deeper, lowHalf, highHalf}
 use Rattle.rules.specs.Why.{goesUp, holding, missed, wholeDomain, halfOf, nameOr, descend}
 use Rattle.promise.specs.Why.{In, pointed, down, Held, Holds, First}
 use Rattle.promise.proofs.Split.{Shallow, at as of, split-open, deeper-shallow, sum, deeper-sum}
+use Rattle.promise.proofs.Survive.{reaches}
 use Rattle.promise.proofs.Halves.{double, high-double, twice}
-use Rattle.promise.proofs.Why.Beyond.{Says, says}
+use Rattle.promise.proofs.Why.Beyond.{Says, says, Before, before}
 
 abbrev pub stop : Depths → Box → Stop
 stop k b = record { depths = k; index = b }
@@ -124,16 +127,17 @@ module _ (at : Three) where
       pub far : x .level ≡ sum (s .depths) + steps
       pub level : x .level ≡ sum (x .depths)
       pub survived : (n : ℕ) → n < steps → T (survives S (down S at n s .depths) (down S at n s .index))
+      pub axes : (axis : Axis) → place axis < place (x .axis) → T (reaches S (x .depths) (x .index) axis)
 
     abbrev FirstOf : ℕ → Stop → Ruling → Type 0
     FirstOf most s (Discarded x) = FirstFrom most s x
     FirstOf most s (Refused n) = Unit {0}
 
-    here : (most : ℕ) (s : Stop) (m : Miss) (rest : Ruling) → Says S (s .depths) (s .index) m → (T (survives S (s .depths) (s .index)) → FirstOf most s rest) → FirstOf most s (nameOr m s rest)
+    here : (most : ℕ) (s : Stop) (m : Miss) (rest : Ruling) → Says S (s .depths) (s .index) m → Before S (s .depths) (s .index) m → (T (survives S (s .depths) (s .index)) → FirstOf most s rest) → FirstOf most s (nameOr m s rest)
     unfolding down
-    here most s Nowhere rest e f = f e
-    here most s (On axis side) rest e f =
-        record { steps = 0; few = omega arith; there = refl; far = omega arith; level = refl; survived = λ n h. absurd (omega arith) }
+    here most s Nowhere rest e b f = f e
+    here most s (On axis side) rest e b f =
+        record { steps = 0; few = omega arith; there = refl; far = omega arith; level = refl; survived = λ n h. absurd (omega arith); axes = b }
 
     further : (most : ℕ) (s : Stop) (a : Ruling) → T (survives S (s .depths) (s .index)) → FirstOf most (halfOf S at s) a → FirstOf (suc most) s a
     unfolding down
@@ -146,6 +150,7 @@ module _ (at : Three) where
           far = omega (arith, f .far, deeper-sum (split S (s .depths)) (s .depths));
           level = f .level;
           survived = earlier;
+          axes = f .axes;
         }
       where
         earlier : (n : ℕ) → n < suc (f .steps) → T (survives S (down S at n s .depths) (down S at n s .index))
@@ -154,19 +159,21 @@ module _ (at : Three) where
 
     first-of : (most : ℕ) (s : Stop) → FirstOf most s (descend most S at s)
     unfolding descend
-    first-of zero s = here zero s (missed S (s .depths) (s .index)) (Refused 0) (says S (s .depths) (s .index)) (λ alive. tt)
+    first-of zero s = here zero s (missed S (s .depths) (s .index)) (Refused 0) (says S (s .depths) (s .index)) (before S (s .depths) (s .index)) (λ alive. tt)
     first-of (suc most) s =
-        here (suc most) s (missed S (s .depths) (s .index)) (descend most S at (halfOf S at s)) (says S (s .depths) (s .index))
+        here (suc most) s (missed S (s .depths) (s .index)) (descend most S at (halfOf S at s)) (says S (s .depths) (s .index)) (before S (s .depths) (s .index))
         (λ alive. further most s (descend most S at (halfOf S at s)) alive (first-of most (halfOf S at s)))
 
     -- from the whole domain
     pub named-first : (x : Reason) → S .deepest ≡ 20 → Holds at wholeDomain → descend 60 S at wholeDomain ≡ Discarded x → First S at x
+    unfolding reaches
     named-first x deep w e =
         record {
           level = f .level;
           on-the-way = subst (λ (n : ℕ). down S at n wholeDomain ≡ stop (x .depths) (x .index)) (sym far) (f .there);
           held = λ n h. down-holds n wholeDomain (omega arith) (record { t = omega arith; u = omega arith; v = omega arith }) (omega (arith, far, f .few)) w;
           survived = λ n h. f .survived n (omega (arith, far));
+          axes = f .axes;
         }
       where
         f : FirstFrom 60 wholeDomain x
