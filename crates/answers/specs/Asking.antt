@@ -28,8 +28,8 @@ fourIn s at =
 
 pub record InBytes (s : List ℕ) (at d : ℕ) : Type 0 where
   pub there : at + 88 ≤ length s
-  pub start : Near (fourIn s at)
-  pub end : Near (fourIn s (at + 48))
+  pub start : Near 536_870_912 (fourIn s at)
+  pub end : Near 536_870_912 (fourIn s (at + 48))
   pub most : d ≤ 65_536
 
 pub record AllInBytes (s : List ℕ) (at dx dy dz : ℕ) : Type 0 where
@@ -87,7 +87,7 @@ module _ (edition : ℕ) (s : List ℕ) (at words : ℕ) where
 
   -- what is not refused is near
   module _ (none : searchRefusal r words ≡ 0) (there : at + recordSize edition ≤ length s) where
-    near-at : (n at′ : ℕ) → n < 15 → at′ ≡ place + 4 * n → Near (fourIn s at′)
+    near-at : (n at′ : ℕ) → n < 15 → at′ ≡ place + 4 * n → Near 536_870_912 (fourIn s at′)
     near-at n at′ h e = rw (four-is s place n at′ h e) (four-near (coordinatesAt s place 24) (rw points-are at (coordinates r words none)) n)
 
     ends : (wide : Bool) → at + sizeBy wide ≤ length s → at + cond wide 32 20 + 96 ≤ length s

@@ -69,7 +69,7 @@ fn refusal_at(s: &[u8], at: usize, edition: u8, words: usize) -> u32
 {
     let r = decode(s, at, edition);
     let points = r.points;
-    search_refusal_by(r, are_coordinates(&points), words)
+    search_refusal_by(r, are_coordinates(r.edition, &points), words)
 }
 
 pub fn id_at(s: &[u8], at: usize, edition: u8) -> u32

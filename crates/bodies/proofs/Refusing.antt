@@ -29,21 +29,21 @@ or-else (suc n) m h = refl
 module _ (w : Terms) (a b : Body) (words : ℕ) where
   pub no-bodies : (isBody a && isBody b) ≡ false → 21 ≡ bodyRefusal w a b words
   unfolding onePass
-  no-bodies e = sym (one-pass w a b words ∙ ap (λ (t : Bool). cond t (orElse (searchRefusal (askOf w a b 0 0 (face 0 3 4 5)) words) (cond (isRight a && isRight b) 0 3)) 21) e)
+  no-bodies e = sym (one-pass w a b words ∙ ap (λ (t : Bool). cond t (orElse (searchRefusal (askOf w a b 0 0 (face 0 3 4 5)) words) (cond (isRight (w .edition) a && isRight (w .edition) b) 0 3)) 21) e)
 
   module _ (e : (isBody a && isBody b) ≡ true) (n : ℕ) (f : n ≡ searchRefusal (askOf w a b 0 0 (face 0 3 4 5)) words) where
-    by-first : bodyRefusal w a b words ≡ orElse n (cond (isRight a && isRight b) 0 3)
+    by-first : bodyRefusal w a b words ≡ orElse n (cond (isRight (w .edition) a && isRight (w .edition) b) 0 3)
     unfolding onePass
     by-first =
         one-pass w a b words
-        ∙ ap (λ (t : Bool). cond t (orElse (searchRefusal (askOf w a b 0 0 (face 0 3 4 5)) words) (cond (isRight a && isRight b) 0 3)) 21) e
-        ∙ ap (λ (m : ℕ). orElse m (cond (isRight a && isRight b) 0 3)) (sym f)
+        ∙ ap (λ (t : Bool). cond t (orElse (searchRefusal (askOf w a b 0 0 (face 0 3 4 5)) words) (cond (isRight (w .edition) a && isRight (w .edition) b) 0 3)) 21) e
+        ∙ ap (λ (m : ℕ). orElse m (cond (isRight (w .edition) a && isRight (w .edition) b) 0 3)) (sym f)
 
     pub first-refused : (n ≡ 0 → ⊥) → n ≡ bodyRefusal w a b words
     first-refused h = sym (by-first ∙ or-else n _ h)
 
-    pub by-positions : (t : Bool) → n ≡ 0 → (isRight a && isRight b) ≡ t → cond t 0 3 ≡ bodyRefusal w a b words
-    by-positions t z r = sym (by-first ∙ ap (λ (m : ℕ). orElse m (cond (isRight a && isRight b) 0 3)) z ∙ ap (λ (x : Bool). cond x 0 3) r)
+    pub by-positions : (t : Bool) → n ≡ 0 → (isRight (w .edition) a && isRight (w .edition) b) ≡ t → cond t 0 3 ≡ bodyRefusal w a b words
+    by-positions t z r = sym (by-first ∙ ap (λ (m : ℕ). orElse m (cond (isRight (w .edition) a && isRight (w .edition) b) 0 3)) z ∙ ap (λ (x : Bool). cond x 0 3) r)
 
   -- the first triangles are there
   module _ (e : (isBody a && isBody b) ≡ true) where

@@ -1,7 +1,7 @@
 -- Refused or answered: what comes back, what is told, and what is left of the queue. Assumes nothing.
 use Prim.Native.Nat.{ℕ, zero, suc, _≤_, _<_}
 use mathlib.Core.Path.{_≡_, refl, sym, ap, _∙_}
-use mathlib.Core.Bool.{Bool, true, false, cond, _&&_}
+use mathlib.Core.Bool.{Bool, true, false, not, cond, _&&_}
 use mathlib.Core.List.{List, [], _∷_}
 use borrow.Author.Tests.{lt-ltb, le-ltb}
 use lib.ListN.{length, replicate}
@@ -10,6 +10,7 @@ use Rattle.rules.specs.declared.Terms.{Terms}
 use Rattle.rules.specs.declared.BodyAnswer.{BodyAnswer}
 use Rattle.rules.specs.declared.BodyAnswer.the-variants.{Clear, Least, Refused}
 use Rattle.rules.specs.Answers.{told, hasMoment}
+use Rattle.rules.specs.QueryFile.{isEdition}
 use Rattle.rules.specs.Refusals.{first, orElse}
 use Rattle.rules.specs.Search.{search as searched}
 use Rattle.rules.specs.Bodies.{Body, Asked, queriesOf, bodyRefusal, counted, isLess, sumOf, heard, hearAll, bodyUnless, bodySearch, queueAfterBodies}
@@ -73,19 +74,29 @@ module _ (w : Terms) (a b : Body) (queue : List ℕ) where
   -- ---- the number that is told
 
   module _ (out : List ℕ) where
-    pub tell-refused : (n : ℕ) → n ≡ bodyRefusal w a b (length queue) → (n ≡ 0 → ⊥) → n ≡ tellRefusal w a b (length queue) out
-    unfolding tellRefusal
-    tell-refused n e h = sym (ap (λ (m : ℕ). orElse m (first (short out 8 ∷ []))) (sym e) ∙ or-else n _ h)
+    abbrev behind : ℕ
+    behind = orElse (bodyRefusal w a b (length queue)) (first (short out 8 ∷ []))
 
-    module _ (e : 0 ≡ bodyRefusal w a b (length queue)) where
-      accepts : tellRefusal w a b (length queue) out ≡ first (short out 8 ∷ [])
-      unfolding tellRefusal
-      accepts = ap (λ (m : ℕ). orElse m (first (short out 8 ∷ []))) (sym e)
+    by-edition : (t : Bool) → isEdition (w .edition) ≡ t → tellRefusal w a b (length queue) out ≡ cond t behind 10
+    unfolding tellRefusal first
+    by-edition true f = ap (λ (t : Bool). orElse (cond (not t) 10 0) behind) f
+    by-edition false f = ap (λ (t : Bool). orElse (cond (not t) 10 0) behind) f
 
-      pub tell-short : length out < 8 → 14 ≡ tellRefusal w a b (length queue) out
-      unfolding first
-      tell-short l = sym (accepts ∙ rw (lt-ltb (length out) 8 l))
+    pub tell-none : isEdition (w .edition) ≡ false → 10 ≡ tellRefusal w a b (length queue) out
+    tell-none f = sym (by-edition false f)
 
-      pub tell-good : 8 ≤ length out → 0 ≡ tellRefusal w a b (length queue) out
-      unfolding first
-      tell-good l = sym (accepts ∙ rw (le-ltb (length out) 8 l))
+    module _ (f : isEdition (w .edition) ≡ true) where
+      pub tell-refused : (n : ℕ) → n ≡ bodyRefusal w a b (length queue) → (n ≡ 0 → ⊥) → n ≡ tellRefusal w a b (length queue) out
+      tell-refused n e h = sym (by-edition true f ∙ ap (λ (m : ℕ). orElse m (first (short out 8 ∷ []))) (sym e) ∙ or-else n _ h)
+
+      module _ (e : 0 ≡ bodyRefusal w a b (length queue)) where
+        accepts : tellRefusal w a b (length queue) out ≡ first (short out 8 ∷ [])
+        accepts = by-edition true f ∙ ap (λ (m : ℕ). orElse m (first (short out 8 ∷ []))) (sym e)
+
+        pub tell-short : length out < 8 → 14 ≡ tellRefusal w a b (length queue) out
+        unfolding first
+        tell-short l = sym (accepts ∙ rw (lt-ltb (length out) 8 l))
+
+        pub tell-good : 8 ≤ length out → 0 ≡ tellRefusal w a b (length queue) out
+        unfolding first
+        tell-good l = sym (accepts ∙ rw (le-ltb (length out) 8 l))

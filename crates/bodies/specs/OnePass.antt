@@ -8,7 +8,7 @@ use native.Mathlib.Omega.{arith}
 use lib.Dec.{eqb}
 use Rattle.rules.specs.declared.Terms.{Terms}
 use Rattle.rules.specs.declared.Ask.{Ask}
-use Rattle.rules.specs.Numbers.{isCoordinate, isSeparation, isTolerance, isBudget, isQueue}
+use Rattle.rules.specs.Numbers.{limitsOf, isCoordinate, isSeparation, isTolerance, isBudget, isQueue}
 use Rattle.rules.specs.Refusals.{first, every, orElse, searchRefusal}
 use Rattle.rules.specs.Bodies.{Body, Asked, A1, B1, B2, B3, face, fifteen, askOf, askedFrom, eachFrom, queriesOf, firstRefused}
 
@@ -33,31 +33,31 @@ module _ (w : Terms) (a b : Body) (words : ℕ) where
   -- what a query of the two bodies is refused for
   by-rows : (i j : ℕ) (k : Ask) → hasKind k ≡ true
       → searchRefusal (askOf w a b i j k) words
-      ≡ rows (every isCoordinate (askOf w a b i j k .points)) (isSeparation (w .dx) && isSeparation (w .dy) && isSeparation (w .dz)) (isTolerance (w .tolerance)) (isBudget (w .budget)) (isQueue words)
+      ≡ rows (every (isCoordinate (limitsOf (w .edition))) (askOf w a b i j k .points)) (isSeparation (w .dx) && isSeparation (w .dy) && isSeparation (w .dz)) (isTolerance (limitsOf (w .edition)) (w .tolerance)) (isBudget (w .budget)) (isQueue words)
   unfolding searchRefusal first askOf
   by-rows i j k e = rw e
 
   pub coordinates-alone : (i j i′ j′ : ℕ) (k k′ : Ask) → hasKind k ≡ true → hasKind k′ ≡ true → searchRefusal (askOf w a b i j k) words ≡ 0
-      → searchRefusal (askOf w a b i′ j′ k′) words ≡ cond (every isCoordinate (askOf w a b i′ j′ k′ .points)) 0 3
+      → searchRefusal (askOf w a b i′ j′ k′) words ≡ cond (every (isCoordinate (limitsOf (w .edition))) (askOf w a b i′ j′ k′ .points)) 0 3
   coordinates-alone i j i′ j′ k k′ e e′ z =
       by-rows i′ j′ k′ e′
-      ∙ others (every isCoordinate (askOf w a b i j k .points)) (isSeparation (w .dx) && isSeparation (w .dy) && isSeparation (w .dz)) (isTolerance (w .tolerance)) (isBudget (w .budget)) (isQueue words) (every isCoordinate (askOf w a b i′ j′ k′ .points)) (sym (by-rows i j k e) ∙ z)
+      ∙ others (every (isCoordinate (limitsOf (w .edition))) (askOf w a b i j k .points)) (isSeparation (w .dx) && isSeparation (w .dy) && isSeparation (w .dz)) (isTolerance (limitsOf (w .edition)) (w .tolerance)) (isBudget (w .budget)) (isQueue words) (every (isCoordinate (limitsOf (w .edition))) (askOf w a b i′ j′ k′ .points)) (sym (by-rows i j k e) ∙ z)
 
 -- whether all coordinates of a list of queries are right
 unfoldable pub allRight : List Asked → Bool
 allRight [] = true
-allRight (q ∷ qs) = every isCoordinate (q .ask .points) && allRight qs
+allRight (q ∷ qs) = every (isCoordinate (limitsOf (q .ask .edition))) (q .ask .points) && allRight qs
 
 -- each query of a list is refused for its coordinates alone
 unfoldable pub Alone : ℕ → List Asked → Type 0
 Alone words [] = Unit {0}
-Alone words (q ∷ qs) = (searchRefusal (q .ask) words ≡ cond (every isCoordinate (q .ask .points)) 0 3) × Alone words qs
+Alone words (q ∷ qs) = (searchRefusal (q .ask) words ≡ cond (every (isCoordinate (limitsOf (q .ask .edition))) (q .ask .points)) 0 3) × Alone words qs
 
 -- then the first refused query's number is 3, or there is none
 pub first-refused : (words : ℕ) (qs : List Asked) → Alone words qs → firstRefused words qs ≡ cond (allRight qs) 0 3
 unfolding firstRefused allRight Alone
 first-refused words [] h = refl
-first-refused words (q ∷ qs) h = ap (λ (n : ℕ). orElse n (firstRefused words qs)) (h .0) ∙ by-case (every isCoordinate (q .ask .points)) (first-refused words qs (h .1))
+first-refused words (q ∷ qs) h = ap (λ (n : ℕ). orElse n (firstRefused words qs)) (h .0) ∙ by-case (every (isCoordinate (limitsOf (q .ask .edition))) (q .ask .points)) (first-refused words qs (h .1))
   where
     by-case : (c : Bool) → firstRefused words qs ≡ cond (allRight qs) 0 3 → orElse (cond c 0 3) (firstRefused words qs) ≡ cond (c && allRight qs) 0 3
     by-case true ih = ih
@@ -82,7 +82,7 @@ haveKinds (k ∷ ks) = hasKind k && haveKinds ks
 
 module _ (w : Terms) (a b : Body) (words : ℕ) (none : searchRefusal (askOf w a b 0 0 (face A1 B1 B2 B3)) words ≡ 0) where
   alone-pair : (i j n : ℕ) (ks : List Ask) → haveKinds ks ≡ true → Alone words (askedFrom w a b i j n ks)
-  unfolding Alone askedFrom
+  unfolding Alone askedFrom askOf
   alone-pair i j n [] e = tt
   alone-pair i j n (k ∷ ks) e =
       let h = and-eq-true-iff (hasKind k) (haveKinds ks) .0 e in

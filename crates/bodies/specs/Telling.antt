@@ -7,6 +7,7 @@ use Rattle.rules.specs.declared.Terms.{Terms}
 use Rattle.rules.specs.declared.BodyAnswer.{BodyAnswer}
 use Rattle.rules.specs.declared.BodyAnswer.the-variants.{Clear, Least, Refused}
 use Rattle.rules.specs.Refusals.{first, orElse}
+use Rattle.rules.specs.QueryFile.{noEdition}
 use Rattle.rules.specs.Bodies.{Body, bodyRefusal, bodySearch, queueAfterBodies}
 use Rattle.answers.specs.Walk.{short, Does}
 
@@ -28,9 +29,9 @@ bodyTold (Clear sum) = 2 ∷ 0 ∷ 0 ∷ 0 ∷ 0 ∷ 0 ∷ low sum ∷ high sum 
 bodyTold (Least t a b query word excess sum) = word ∷ t ∷ a ∷ b ∷ query ∷ excess ∷ low sum ∷ high sum ∷ []
 bodyTold (Refused number) = []
 
--- 21 and the queries' own, then 14
+-- 10 where there is no such edition, then 21 and the queries' own, then 14
 unfoldable pub tellRefusal : Terms → Body → Body → ℕ → List ℕ → ℕ
-tellRefusal w a b words out = orElse (bodyRefusal w a b words) (first (short out 8 ∷ []))
+tellRefusal w a b words out = orElse (first (noEdition (w .edition) ∷ [])) (orElse (bodyRefusal w a b words) (first (short out 8 ∷ [])))
 
 abbrev pub Tells : Terms → Body → Body → List ℕ → List ℕ → List ℕ → List ℕ → ℕ → Type 0
 Tells w a b queue queue′ out out′ number =

@@ -167,6 +167,7 @@ fn query_of(
         tolerance: w.tolerance,
         budget: w.budget,
         spare: 0,
+        edition: w.edition,
         points,
     }
 }

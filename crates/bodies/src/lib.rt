@@ -13,6 +13,7 @@ use asking::query_at;
 use hearing::counted;
 use hearing::heard;
 use refusals::are_coordinates;
+use refusals::is_edition;
 use refusals::search_refusal;
 use rules::BodyAnswer;
 use rules::Terms;
@@ -58,8 +59,8 @@ pub fn body_refusal(
     if number != 0 {
         return number;
     }
-    let right = (are_coordinates(a0) & are_coordinates(a1))
-        & (are_coordinates(b0) & are_coordinates(b1));
+    let right = (are_coordinates(w.edition, a0) & are_coordinates(w.edition, a1))
+        & (are_coordinates(w.edition, b0) & are_coordinates(w.edition, b1));
     if right { 0 } else { 3 }
 }
 
@@ -197,7 +198,7 @@ pub fn search_bodies(
     walk(w, m, a0, a1, n, b0, b1, queue)
 }
 
-// Two bodies, told in eight numbers; 21 and the queries' own numbers come before 14.
+// Two bodies, told in eight numbers; 10 comes first, and 21 and the queries' own numbers before 14.
 pub fn answer_bodies(
     w: Terms,
     m: usize,
@@ -211,6 +212,9 @@ pub fn answer_bodies(
 ) -> u32
     ensures { λ r. ⌜ Tells w (body m (now (a0 .entry)) (now (a1 .entry))) (body n (now (b0 .entry)) (now (b1 .entry))) (now (queue .entry)) (now (queue .exit)) (now (out .entry)) (now (out .exit)) r ⌝ }
 {
+    if !is_edition(w.edition) {
+        return 10;
+    }
     let number = body_refusal(w, m, a0, a1, n, b0, b1, queue.len());
     if number != 0 {
         return number;

@@ -91,9 +91,10 @@ pub extern "C" fn taperhive_trailer(out: &mut [u8], at: usize, edition: u8, coun
     number(queries::write_trailer(out, at, edition, count))
 }
 
-// Two bodies of triangles, their positions at the start and at the end of the step.
+// Two bodies of triangles, their positions at the start and at the end of the step, in the range of an edition.
 #[no_mangle]
 pub extern "C" fn taperhive_bodies(
+    edition: u8,
     dx: u32,
     dy: u32,
     dz: u32,
@@ -108,7 +109,7 @@ pub extern "C" fn taperhive_bodies(
     queue: &mut [u64],
     told: &mut [u32],
 ) -> u32
-    ensures { λ r. ⌜ Tells (record { dx = dx; dy = dy; dz = dz; tolerance = tolerance; budget = budget }) (body m (now (a0 .entry)) (now (a1 .entry))) (body n (now (b0 .entry)) (now (b1 .entry))) (now (queue .entry)) (now (queue .exit)) (now (told .entry)) (now (told .exit)) r ⌝ }
+    ensures { λ r. ⌜ Tells (record { dx = dx; dy = dy; dz = dz; tolerance = tolerance; budget = budget; edition = edition }) (body m (now (a0 .entry)) (now (a1 .entry))) (body n (now (b0 .entry)) (now (b1 .entry))) (now (queue .entry)) (now (queue .exit)) (now (told .entry)) (now (told .exit)) r ⌝ }
 {
     let w = Terms {
         dx,
@@ -116,6 +117,7 @@ pub extern "C" fn taperhive_bodies(
         dz,
         tolerance,
         budget,
+        edition,
     };
     bodies::answer_bodies(w, m, a0, a1, n, b0, b1, queue, told)
 }

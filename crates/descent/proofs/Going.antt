@@ -20,7 +20,7 @@ use Rattle.rules.specs.Search.{Query, full, split, deeper, lowHalf, highHalf}
 use Rattle.rules.specs.Why.{goesUp, holding, missed, halfOf, reasonOf, nameOr, descend}
 use Rattle.kernel.specs.declared.Pair.{Pair}
 use Rattle.kernel.specs.Kernel.{asked}
-use Rattle.kernel.specs.Ranges.{Shallow, InGrid}
+use Rattle.kernel.specs.Ranges.{Shallow, shallower, InGrid}
 use Rattle.queue.specs.Grid.{half-grid as grid-of-half}
 use Rattle.search.specs.Levels.{depthIn}
 use Rattle.search.proofs.Deepening.{split-deepest, deeper-total, deeper-shallow}
@@ -39,26 +39,26 @@ module _ (p : Pair) (s : Stop) (h : Good p s 1) where
   way = split (asked p) (s .depths)
 
   not-full : full (asked p) (s .depths) ≡ false
-  not-full = go (eqb (s .depths .t) 20) (eqb (s .depths .u) 20) (eqb (s .depths .v) 20) refl refl refl
+  not-full = go (eqb (s .depths .t) (p .deepest)) (eqb (s .depths .u) (p .deepest)) (eqb (s .depths .v) (p .deepest)) refl refl refl
     where
-      go : (x y z : Bool) → eqb (s .depths .t) 20 ≡ x → eqb (s .depths .u) 20 ≡ y → eqb (s .depths .v) 20 ≡ z → (x && y && z) ≡ false
-      go true true true d e f = absurd (omega (arith, eqb-true (s .depths .t) 20 d, eqb-true (s .depths .u) 20 e, eqb-true (s .depths .v) 20 f, h .levels))
+      go : (x y z : Bool) → eqb (s .depths .t) (p .deepest) ≡ x → eqb (s .depths .u) (p .deepest) ≡ y → eqb (s .depths .v) (p .deepest) ≡ z → (x && y && z) ≡ false
+      go true true true d e f = absurd (omega (arith, eqb-true (s .depths .t) (p .deepest) d, eqb-true (s .depths .u) (p .deepest) e, eqb-true (s .depths .v) (p .deepest) f, h .levels))
       go true true false d e f = refl
       go true false z d e f = refl
       go false y z d e f = refl
 
-  not-deepest : depthIn way (s .depths) ≡ 20 → ⊥
+  not-deepest : depthIn way (s .depths) ≡ p .deepest → ⊥
   not-deepest = split-deepest (asked p) (s .depths) not-full
 
   pub halves : Halves way (s .depths) (s .index)
-  halves = record { shallow = h .shallow; grid = h .grid; below = below way not-deepest }
+  halves = record { shallow = shallower (h .ranged .deepest) (h .shallow); grid = h .grid; below = below way not-deepest }
     where
-      below : (q : Parameter) → (depthIn q (s .depths) ≡ 20 → ⊥) → depthIn q (s .depths) < 20
-      below InT f = omega (arith, f, h .shallow .t)
-      below InU f = omega (arith, f, h .shallow .u)
-      below InV f = omega (arith, f, h .shallow .v)
+      below : (q : Parameter) → (depthIn q (s .depths) ≡ p .deepest → ⊥) → depthIn q (s .depths) < 20
+      below InT f = omega (arith, f, h .shallow .t, h .ranged .deepest)
+      below InU f = omega (arith, f, h .shallow .u, h .ranged .deepest)
+      below InV f = omega (arith, f, h .shallow .v, h .ranged .deepest)
 
-  half-shallow : (at : Three) → Shallow (halfOf (asked p) at s .depths)
+  half-shallow : (at : Three) → Shallow (p .deepest) (halfOf (asked p) at s .depths)
   half-shallow at = deeper-shallow way (s .depths) not-deepest (h .shallow)
 
   half-grid : (at : Three) → InGrid (halfOf (asked p) at s .depths) (halfOf (asked p) at s .index)

@@ -10,7 +10,7 @@ ghost use Rattle.kernel.specs.Ranges.{Shallow};
 ghost use Rattle.descent.specs.Way.{Halves, Good};
 use boxes::pack;
 use boxes::unpack;
-use gap::cell::PARTS;
+use gap::PARTS;
 use gap::cell::low;
 use kernel::Pair;
 use queue::clear;
@@ -98,7 +98,7 @@ fn is_upper(k: u64, i: u64, at: u64) -> bool
     requires { ⌜ (k < 20) × (i < 2 ^ k) ⌝ }
     ensures { λ r. ⌜ r ≡ inUpper k i at ⌝ }
 {
-    low(k + 1, 2 * i + 1) <= at
+    low(20, k + 1, 2 * i + 1) <= at
 }
 
 fn goes_up(split: Parameter, k: Three, b: Three, at: Three) -> bool
@@ -135,7 +135,7 @@ fn half(p: Pair, at: Three, s: Stop) -> Stop
 }
 
 fn reason(s: Stop, axis: Axis, side: Side) -> Reason
-    requires { ⌜ Shallow (s .depths) ⌝ }
+    requires { ⌜ Shallow 20 (s .depths) ⌝ }
     ensures { λ r. ⌜ r ≡ reasonOf s axis side ⌝ }
 {
     let k = s.depths;
@@ -178,7 +178,7 @@ fn from_whole(r: Record, words: usize, at: Three) -> Ruling
         depths: Three { t: 0, u: 0, v: 0 },
         index: Three { t: 0, u: 0, v: 0 },
     };
-    go_down(p, at, whole, 60)
+    go_down(p, at, whole, 3 * p.deepest)
 }
 
 // What refuses the question before anything is searched, the search's own and then 23; 0: nothing.

@@ -5,6 +5,7 @@ pub mod Steps
 pub mod Cube
 pub mod Bounds
 pub mod Grid
+pub mod Finer
 pub mod Asked
 pub mod Miss
 pub mod Spread

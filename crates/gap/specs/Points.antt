@@ -13,20 +13,20 @@ use Rattle.rules.specs.declared.Axis.the-variants.{X, Y, Z}
 use Rattle.rules.specs.Gap.{place, isSecondY, negateFrom}
 use Rattle.kernel.specs.declared.Kernel.{Kernel}
 use Rattle.kernel.specs.Kernel.{kernelOf}
-use Rattle.kernel.specs.Ranges.{Small}
+use Rattle.kernel.specs.Ranges.{Held, Small}
 use Rattle.gap.specs.declared.points.Four.{Four}
 use Rattle.gap.specs.declared.span.Moment.{Moment}
 use Rattle.gap.specs.Steps.{SmallMoment}
 
--- the coordinates are in their range
-abbrev pub Coordinates : List ℤ → Type 0
-Coordinates points = (i : ℕ) → Within 1_048_576 (getD points i (pos 0))
+-- the coordinates are within a limit
+abbrev pub Coordinates : ℕ → List ℤ → Type 0
+Coordinates limit points = (i : ℕ) → Within limit (getD points i (pos 0))
 
-pub record Near (f : Four) : Type 0 where
-  pub p0 : Within 1_048_576 (f .p0)
-  pub p1 : Within 1_048_576 (f .p1)
-  pub p2 : Within 1_048_576 (f .p2)
-  pub p3 : Within 1_048_576 (f .p3)
+pub record Near (limit : ℕ) (f : Four) : Type 0 where
+  pub p0 : Within limit (f .p0)
+  pub p1 : Within limit (f .p1)
+  pub p2 : Within limit (f .p2)
+  pub p3 : Within limit (f .p3)
 
 abbrev pub fourOf : List ℤ → ℕ → Four
 fourOf points at =
@@ -90,21 +90,21 @@ turned-within : {M : ℕ} {z : ℤ} (turn : Bool) → Within M z → Within M (t
 turned-within true h = within-neg h
 turned-within false h = h
 
-pub four-near : (points : List ℤ) → Coordinates points → (at : ℕ) → Near (fourOf points at)
+pub four-near : {C : ℕ} (points : List ℤ) → Coordinates C points → (at : ℕ) → Near C (fourOf points at)
 four-near points h at = record { p0 = h at; p1 = h (at + 3); p2 = h (at + 6); p3 = h (at + 9) }
 
-end-small : (face : Bool) {f : Four} → Near f → SmallMoment 2_097_152 (endOf face f)
+end-small : {C : ℕ} (face : Bool) {f : Four} → Near C f → SmallMoment (C + C) (endOf face f)
 end-small true n = record { a = within-sub (n .p0) (n .p1); b = within-sub (n .p1) (n .p2); c = within-sub (n .p1) (n .p3) }
 end-small false n = record { a = within-sub (n .p0) (n .p2); b = within-sub (n .p1) (n .p0); c = within-sub (n .p2) (n .p3) }
 
-sided-near : (turn face : Bool) {f : Four} → Near f → Near (sidedFour turn face f)
+sided-near : {C : ℕ} (turn face : Bool) {f : Four} → Near C f → Near C (sidedFour turn face f)
 sided-near turn face n = record { p0 = n .p0; p1 = turned-within (turn && face) (n .p1); p2 = turned-within turn (n .p2); p3 = turned-within turn (n .p3) }
 
-pub kernel-by-small : {f g : Four} → Near f → Near g → (turn face : Bool) → Small (kernelBy f g turn face)
-kernel-by-small n m turn face =
+pub kernel-by-small : {C q : ℕ} {f g : Four} → Held C q → Near C f → Near C g → (turn face : Bool) → Small q (kernelBy f g turn face)
+kernel-by-small {C} held n m turn face =
     let s = end-small face (sided-near turn face n) in
     let e = end-small face (sided-near turn face m) in
-    record { a0 = s .a; b0 = s .b; c0 = s .c; a1 = e .a; b1 = e .b; c1 = e .c }
+    record { coordinate = C; held = held; a0 = s .a; b0 = s .b; c0 = s .c; a1 = e .a; b1 = e .b; c1 = e .c }
 
-pub kernel-small : (points : List ℤ) → Coordinates points → (at : ℕ) (turn face : Bool) → Small (kernelAt points at turn face)
-kernel-small points h at = kernel-by-small (four-near points h at) (four-near points h (at + 12))
+pub kernel-small : {C q : ℕ} (points : List ℤ) → Held C q → Coordinates C points → (at : ℕ) (turn face : Bool) → Small q (kernelAt points at turn face)
+kernel-small points held h at = kernel-by-small held (four-near points h at) (four-near points h (at + 12))

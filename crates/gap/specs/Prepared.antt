@@ -1,12 +1,13 @@
 -- A pair that asks of the written search what a record asks, and that is in range.
 use mathlib.Core.Path.{_≡_, refl, sym, ap, ap₂, _∙_}
 use mathlib.Core.Bool.{Bool, true, false, _&&_}
-use Prim.Native.Nat.{ℕ, _%_}
+use Prim.Native.Nat.{ℕ, _%_, _^_, _≤_}
 use native.Mathlib.Omega.{arith}
-use lib.Dec.{eqb}
+use lib.Dec.{eqb, lit≤}
 use lib.IntN.{pos}
+use Rattle.whole.specs.Within.{within-more}
 use Rattle.rules.specs.declared.Record.{Record}
-use Rattle.rules.specs.Numbers.{deepest, half}
+use Rattle.rules.specs.Numbers.{limitsBy, limitsOf, half}
 use Rattle.rules.specs.declared.Axis.{Axis}
 use Rattle.rules.specs.declared.Axis.the-variants.{X, Y, Z}
 use Rattle.rules.specs.Gap.{place, gapOn, isVertexFace, sided, separationOn}
@@ -16,7 +17,7 @@ use Rattle.kernel.specs.declared.Kernel.{Kernel}
 use Rattle.kernel.specs.declared.Pair.{Pair}
 use Rattle.kernel.specs.Kernel.{kern, kernelOf, asked, onAxis, apartOn}
 use Rattle.kernel.specs.Same.{gap-kernel}
-use Rattle.kernel.specs.Ranges.{Ranged}
+use Rattle.kernel.specs.Ranges.{Held, Ranged, editions-held}
 use Rattle.refusals.specs.Accepted.{accepted-search}
 use Rattle.gap.specs.Corners.{meets}
 use Rattle.gap.specs.Cube.{wholeCube}
@@ -47,6 +48,7 @@ pairOf r words =
       tolerance = r .tolerance;
       budget = r .budget;
       room = half words;
+      deepest = limitsOf (r .edition) .deepest;
     }
 
 module _ (r : Record) (words : ℕ) where
@@ -73,21 +75,29 @@ module _ (r : Record) (words : ℕ) where
         tolerance = r .tolerance;
         budget = r .budget;
         room = half words;
-        deepest = deepest;
+        deepest = limitsOf (r .edition) .deepest;
       }
 
-  pub coordinates : searchRefusal r words ≡ 0 → Coordinates (r .points)
-  coordinates e = λ i. record { most = accepted-search r words e .query .coordinate i }
+  -- of every edition coordinate and depth limit go together
+  pub held : Held (limitsOf (r .edition) .coordinate) (2 ^ limitsOf (r .edition) .deepest)
+  held = editions-held (eqb (r .edition) 3)
+
+  pub in-range : searchRefusal r words ≡ 0 → Coordinates (limitsOf (r .edition) .coordinate) (r .points)
+  in-range e = λ i. record { most = accepted-search r words e .query .coordinate i }
+
+  pub coordinates : searchRefusal r words ≡ 0 → Coordinates 536_870_912 (r .points)
+  coordinates e = λ i. within-more (omega (arith, held .coordinate-most)) (in-range e i)
 
   pub pair-prepared : searchRefusal r words ≡ 0 → Prepared r words (pairOf r words)
   pair-prepared e =
       let h = accepted-search r words e in
       let a = h .query in
-      let small = kernel-small (r .points) (coordinates e) in
+      let small = kernel-small (r .points) held (in-range e) in
       record {
         asks = pair-asks;
         ranged =
             record {
+              deepest = deep (eqb (r .edition) 3);
               x = small 0 (isY X && flagged r) (isVertexFace r);
               y = small 1 (isY Y && flagged r) (isVertexFace r);
               z = small 2 (isY Z && flagged r) (isVertexFace r);
@@ -101,6 +111,10 @@ module _ (r : Record) (words : ℕ) where
               room = omega (arith, h .words-most);
             };
       }
+    where
+      deep : (longer : Bool) → limitsBy longer .deepest ≤ 20
+      deep true = lit≤ tt
+      deep false = lit≤ tt
 
 -- ---- the whole cube, axis by axis as they are reached
 
@@ -109,7 +123,7 @@ module _ (r : Record) (words : ℕ) where
   at axis d = meets (axisOf r axis) wholeCube d
 
   pub whole : (at Z (r .dz) && (at X (r .dx) && at Y (r .dy))) ≡ survives (query r words) origin origin
-  whole = by-height (pairOf r words) origin origin ∙ ap (λ (q : Query). survives q origin origin) (pair-asks r words)
+  whole = by-height {d = 0} (lit≤ tt) (pairOf r words) origin origin (record { t = lit≤ tt; u = lit≤ tt; v = lit≤ tt }) ∙ ap (λ (q : Query). survives q origin origin) (pair-asks r words)
 
   module _ {z : Bool} (a : z ≡ at Z (r .dz)) where
     pub misses-z : z ≡ false → false ≡ survives (query r words) origin origin

@@ -13,7 +13,6 @@ use Rattle.whole.specs.Ring.{Ex, var, num, _:+_, _:*_, _:-_, ring}
 use Rattle.whole.specs.Within.{Within, within-add, within-sub, within-mul, within-pos, within-more, fits}
 use Rattle.rules.specs.declared.Parameter.{Parameter}
 use Rattle.rules.specs.declared.Parameter.the-variants.{InT, InU, InV}
-use Rattle.rules.specs.Numbers.{parts}
 use Rattle.rules.specs.declared.Axis.{Axis}
 use Rattle.rules.specs.declared.Axis.the-variants.{X, Y, Z}
 use Rattle.rules.specs.Search.{largest, fourWays, spread, side}
@@ -22,7 +21,7 @@ use Rattle.kernel.specs.declared.Pair.{Pair}
 use Rattle.kernel.specs.Kernel.{kern, asked, onAxis}
 use Rattle.kernel.specs.Ranges.{Small, Ranged}
 use Rattle.gap.specs.declared.span.Moment.{Moment}
-use Rattle.gap.specs.Steps.{SmallMoment}
+use Rattle.gap.specs.Steps.{SmallMoment, number-within}
 
 abbrev pub changeOf : Kernel → Moment
 changeOf K = record { a = K .a1 -ℤ K .a0; b = K .b1 -ℤ K .b0; c = K .c1 -ℤ K .c0 }
@@ -78,12 +77,33 @@ module _ (K : Kernel) (x : ℤ) where
 -- ---- what the steps are within
 
 abbrev pub spreadMost : ℕ
-spreadMost = 12_582_912
+spreadMost = 6_442_450_944
 
 abbrev pub changeMost : ℕ
-changeMost = 4_194_304
+changeMost = 2_147_483_648
 
-pub change-small : {K : Kernel} → Small K → SmallMoment changeMost (changeOf K)
+-- the six numbers of an axis, whatever the limits are
+pub record Numbers (K : Kernel) : Type 0 where
+  pub a0 : Within 1_073_741_824 (K .a0)
+  pub b0 : Within 1_073_741_824 (K .b0)
+  pub c0 : Within 1_073_741_824 (K .c0)
+  pub a1 : Within 1_073_741_824 (K .a1)
+  pub b1 : Within 1_073_741_824 (K .b1)
+  pub c1 : Within 1_073_741_824 (K .c1)
+
+pub numbers : {q : ℕ} {K : Kernel} → Small q K → Numbers K
+numbers s =
+    let h = s .held in
+    record {
+      a0 = number-within h (s .a0);
+      b0 = number-within h (s .b0);
+      c0 = number-within h (s .c0);
+      a1 = number-within h (s .a1);
+      b1 = number-within h (s .b1);
+      c1 = number-within h (s .c1);
+    }
+
+pub change-small : {K : Kernel} → Numbers K → SmallMoment changeMost (changeOf K)
 change-small s = record { a = within-sub (s .a1) (s .a0); b = within-sub (s .b1) (s .b0); c = within-sub (s .c1) (s .c0) }
 
 pub record StepFits (u v : ℤ) (m : Moment) : Type 0 where
@@ -169,21 +189,21 @@ module _ (p : Pair) where
       (λ u axis. along-v-start (onAxis p axis) (pos u))
       (λ u axis. along-v-end (onAxis p axis) (pos u))
 
-pub wide : {x : ℤ} → Within 2_097_152 x → Within spreadMost x
+pub wide : {x : ℤ} → Within 1_073_741_824 x → Within spreadMost x
 wide h = within-more (lit≤ tt) h
 
 pub spread-most : {p : Pair} → Ranged p → (m : Parameter) → spread (asked p) m ≤ spreadMost
 spread-most {p} r InT = subst (λ (n : ℕ). n ≤ spreadMost) (spread-t p) (max-most (max-most (most none none) (most none full)) (max-most (most full none) (most full full)))
   where
     most : {u v : ℤ} → Within 1 u → Within 1 v → wayOf u v (changeOf (p .x)) (changeOf (p .y)) (changeOf (p .z)) ≤ spreadMost
-    most hu hv = sizes-most (step-within hu hv (change-small (r .x))) (step-within hu hv (change-small (r .y))) (step-within hu hv (change-small (r .z)))
+    most hu hv = sizes-most (step-within hu hv (change-small (numbers (r .x)))) (step-within hu hv (change-small (numbers (r .y)))) (step-within hu hv (change-small (numbers (r .z))))
 spread-most {p} r InU =
     subst (λ (n : ℕ). n ≤ spreadMost) (spread-u p)
-    (max-most (sizes-most (wide (r .x .b0)) (wide (r .y .b0)) (wide (r .z .b0))) (sizes-most (wide (r .x .b1)) (wide (r .y .b1)) (wide (r .z .b1))))
+    (max-most (sizes-most (wide (numbers (r .x) .b0)) (wide (numbers (r .y) .b0)) (wide (numbers (r .z) .b0))) (sizes-most (wide (numbers (r .x) .b1)) (wide (numbers (r .y) .b1)) (wide (numbers (r .z) .b1))))
 spread-most {p} r InV =
     subst (λ (n : ℕ). n ≤ spreadMost) (spread-v p)
-    (max-most (sizes-most (wide (r .x .c0)) (wide (r .y .c0)) (wide (r .z .c0))) (sizes-most (wide (r .x .c1)) (wide (r .y .c1)) (wide (r .z .c1))))
+    (max-most (sizes-most (wide (numbers (r .x) .c0)) (wide (numbers (r .y) .c0)) (wide (numbers (r .z) .c0))) (sizes-most (wide (numbers (r .x) .c1)) (wide (numbers (r .y) .c1)) (wide (numbers (r .z) .c1))))
 
 -- a spread at a depth fits
-pub weight-most : {n : ℕ} (k : ℕ) → n ≤ spreadMost → n * side k ≤ spreadMost * parts
+pub weight-most : {n : ℕ} (k : ℕ) → n ≤ spreadMost → n * side k ≤ spreadMost * 1_048_576
 weight-most k h = mul-le-mul h (pow-mono {i = 20 - k} {j = 20} (omega arith))

@@ -1,16 +1,14 @@
-// A box as its ends in parts.
+// A box as its ends in parts: 2 to the depth limit of them are the whole.
 ghost use mathlib.Core.Path.{_≡_};
 ghost use Prim.Native.Nat.{_≤_, _^_};
-ghost use Rattle.rules.specs.Search.{low};
 ghost use Rattle.kernel.specs.Ranges.{Shallow, InGrid};
+ghost use Rattle.gap.specs.Corners.{lowIn};
 ghost use Rattle.gap.specs.Steps.{Placed};
 use rules::Three;
 
-// t, u, v in 0 to 1, counted in parts.
-pub const PARTS: u64 = 1048576;
-
-// A cell's ends in parts.
+// A cell's ends, and the parts that they count.
 pub struct Cell {
+    pub parts: u64,
     pub t0: u64,
     pub t1: u64,
     pub u0: u64,
@@ -20,24 +18,26 @@ pub struct Cell {
 }
 
 // The low end of the cell at an index, which is the high end of the one before it.
-pub fn low(k: u64, i: u64) -> u64
-    requires { ⌜ (k ≤ 20) × (i ≤ 2 ^ k) ⌝ }
-    ensures { λ r. ⌜ r ≡ low k i ⌝ }
+pub fn low(deepest: u64, k: u64, i: u64) -> u64
+    requires { ⌜ (deepest ≤ 20) × ((k ≤ deepest) × (i ≤ 2 ^ k)) ⌝ }
+    ensures { λ r. ⌜ r ≡ lowIn deepest k i ⌝ }
 {
-    i << (20 - k)
+    i << (deepest - k)
 }
 
-pub fn cell_of(k: Three, i: Three) -> Cell
-    requires { ⌜ Shallow k × InGrid k i ⌝ }
-    ensures { λ r. ⌜ Placed k i r ⌝ }
+pub fn cell_of(deepest: u64, k: Three, i: Three) -> Cell
+    requires { ⌜ (deepest ≤ 20) × (Shallow deepest k × InGrid k i) ⌝ }
+    ensures { λ r. ⌜ Placed deepest k i r ⌝ }
 {
-    let t0 = low(k.t, i.t);
-    let t1 = low(k.t, i.t + 1);
-    let u0 = low(k.u, i.u);
-    let u1 = low(k.u, i.u + 1);
-    let v0 = low(k.v, i.v);
-    let v1 = low(k.v, i.v + 1);
+    let parts = low(deepest, 0, 1);
+    let t0 = low(deepest, k.t, i.t);
+    let t1 = low(deepest, k.t, i.t + 1);
+    let u0 = low(deepest, k.u, i.u);
+    let u1 = low(deepest, k.u, i.u + 1);
+    let v0 = low(deepest, k.v, i.v);
+    let v1 = low(deepest, k.v, i.v + 1);
     Cell {
+        parts: parts,
         t0: t0,
         t1: t1,
         u0: u0,

@@ -10,7 +10,6 @@ ghost use Rattle.gap.specs.Corners.{meets};
 ghost use Rattle.gap.specs.Cube.{wholeCube};
 ghost use Rattle.gap.specs.Points.{Near, kernelBy};
 ghost use Rattle.gap.specs.Prepared.{Prepared};
-use cell::PARTS;
 use cell::cell_of;
 use cell::low;
 use kernel::Pair;
@@ -22,6 +21,7 @@ use miss::or_next;
 use points::Four;
 use points::kernel_at;
 use points::kernel_of;
+use refusals::depth_limit;
 use rules::Axis;
 use rules::Corner;
 use rules::Miss;
@@ -43,9 +43,12 @@ pub mod slab; // slab.rt: what all boxes of a t index share
 pub mod span; // span.rt: the least and the greatest of F over a cell's corners, on one axis
 mod weigh; // weigh.rt: what a split in each parameter is worth
 
+// t, u, v in 0 to 1 are told in parts, whatever the depth limit.
+pub const PARTS: u64 = 1048576;
+
 // Whether F comes within d of 0 on one axis over the whole cube, by the coordinates at the start and at the end.
 pub fn meets_axis(s: Four, e: Four, turned: bool, face: bool, d: u32) -> bool
-    requires { ⌜ Near s × (Near e × (d ≤ 65536)) ⌝ }
+    requires { ⌜ Near 536870912 s × (Near 536870912 e × (d ≤ 65536)) ⌝ }
     ensures { λ r. ⌜ r ≡ meets (kernelBy s e turned face) wholeCube d ⌝ }
 {
     meets_whole(kernel_of(s, e, turned, face), d as u64)
@@ -72,10 +75,10 @@ pub fn survives_whole(r: Record, words: usize) -> bool
 
 // The first axis, x before y before z, and the side on which all of the box is beyond the separation; nowhere where it survives.
 pub fn missed(p: Pair, k: Three, i: Three) -> Miss
-    requires { ⌜ Ranged p × (Shallow k × InGrid k i) ⌝ }
+    requires { ⌜ Ranged p × (Shallow (p .deepest) k × InGrid k i) ⌝ }
     ensures { λ r. ⌜ r ≡ missed (asked p) k i ⌝ }
 {
-    let w = cell_of(k, i);
+    let w = cell_of(p.deepest, k, i);
     let x = miss_on(p.x, w, p.dx, Axis::X);
     let y = miss_on(p.y, w, p.dy, Axis::Y);
     let z = miss_on(p.z, w, p.dz, Axis::Z);
@@ -84,11 +87,11 @@ pub fn missed(p: Pair, k: Three, i: Three) -> Miss
 
 // Whether a half is kept: for vertex-face its low u plus low v is at most 1.
 pub fn inside(p: Pair, k: Three, i: Three) -> bool
-    requires { ⌜ Shallow k × InGrid k i ⌝ }
+    requires { ⌜ Shallow 20 k × InGrid k i ⌝ }
     ensures { λ r. ⌜ r ≡ inside (asked p) k i ⌝ }
 {
     if p.face {
-        low(k.u, i.u) + low(k.v, i.v) <= PARTS
+        low(20, k.u, i.u) + low(20, k.v, i.v) <= PARTS
     } else {
         true
     }
@@ -96,14 +99,14 @@ pub fn inside(p: Pair, k: Three, i: Three) -> bool
 
 // What is recorded of a survivor: its low corner, with the excess there.
 pub fn corner(p: Pair, k: Three, i: Three) -> Corner
-    requires { ⌜ Ranged p × (Shallow k × InGrid k i) ⌝ }
+    requires { ⌜ Ranged p × (Shallow (p .deepest) k × InGrid k i) ⌝ }
     ensures { λ r. ⌜ r ≡ corner (asked p) k i ⌝ }
 {
-    let w = cell_of(k, i);
+    let w = cell_of(p.deepest, k, i);
     let e = excess(p, w);
-    let t = w.t0 as u32;
-    let u = w.u0 as u32;
-    let v = w.v0 as u32;
+    let t = low(20, k.t, i.t) as u32;
+    let u = low(20, k.u, i.u) as u32;
+    let v = low(20, k.v, i.v) as u32;
     Corner {
         t: t,
         u: u,
@@ -114,36 +117,36 @@ pub fn corner(p: Pair, k: Three, i: Three) -> Corner
 
 // Whether the first survivor of a level is close enough: its excess e is 0, or its width within the tolerance.
 pub fn near(p: Pair, k: Three, i: Three, e: u32) -> bool
-    requires { ⌜ (Ranged p × (Shallow k × InGrid k i)) × (e ≡ excess (asked p) k i) ⌝ }
+    requires { ⌜ (Ranged p × (Shallow (p .deepest) k × InGrid k i)) × (e ≡ excess (asked p) k i) ⌝ }
     ensures { λ r. ⌜ r ≡ near (asked p) k i ⌝ }
 {
     if e == 0 {
         return true;
     }
-    let w = cell_of(k, i);
+    let w = cell_of(p.deepest, k, i);
     thin(p, w)
 }
 
 // The parameter that every survivor of a level is split in.
 pub fn split(p: Pair, k: Three) -> Parameter
-    requires { ⌜ Ranged p × Shallow k ⌝ }
+    requires { ⌜ Ranged p × Shallow (p .deepest) k ⌝ }
     ensures { λ r. ⌜ r ≡ split (asked p) k ⌝ }
 {
-    let t = weight(spread_t(p), k.t);
-    let u = weight(spread_u(p), k.u);
-    let v = weight(spread_v(p), k.v);
+    let t = weight(p.deepest, spread_t(p), k.t);
+    let u = weight(p.deepest, spread_u(p), k.u);
+    let v = weight(p.deepest, spread_v(p), k.v);
     winner(t, u, v)
 }
 
 // The same for who asks rarely: with a second caller `split` would no longer vanish into the search, which that slows by a tenth.
 pub fn rare_split(p: Pair, k: Three) -> Parameter
-    requires { ⌜ Ranged p × Shallow k ⌝ }
+    requires { ⌜ Ranged p × Shallow (p .deepest) k ⌝ }
     ensures { λ r. ⌜ r ≡ split (asked p) k ⌝ }
 {
     winner(
-        weight(spread_t(p), k.t),
-        weight(spread_u(p), k.u),
-        weight(spread_v(p), k.v),
+        weight(p.deepest, spread_t(p), k.t),
+        weight(p.deepest, spread_u(p), k.u),
+        weight(p.deepest, spread_v(p), k.v),
     )
 }
 
@@ -162,6 +165,7 @@ pub fn prepare(r: Record, words: usize) -> Pair
     let dy = r.dy as u64;
     let dz = r.dz as u64;
     let tolerance = r.tolerance as u64;
+    let deepest = depth_limit(r.edition);
     Pair {
         x: x,
         y: y,
@@ -173,5 +177,6 @@ pub fn prepare(r: Record, words: usize) -> Pair
         tolerance: tolerance,
         budget: r.budget,
         room: words / 2,
+        deepest: deepest,
     }
 }

@@ -7,7 +7,7 @@ ghost use Rattle.kernel.specs.Ranges.{Small};
 ghost use Rattle.gap.specs.Miss.{sideOf, missIn};
 ghost use Rattle.gap.specs.Steps.{InParts, termMost};
 use super::cell::Cell;
-use super::measure::UNIT;
+use super::measure::units;
 use super::span::Span;
 use super::span::over_corners;
 use kernel::Kernel;
@@ -31,11 +31,11 @@ fn side_of(s: Span, limit: i64, axis: Axis) -> Miss
 }
 
 pub fn miss_on(k: Kernel, w: Cell, d: u64, axis: Axis) -> Miss
-    requires { ⌜ Small k × (InParts w × (d ≤ 65536)) ⌝ }
+    requires { ⌜ Small (w .parts) k × (InParts w × (d ≤ 65536)) ⌝ }
     ensures { λ r. ⌜ r ≡ missIn k w d axis ⌝ }
 {
     let s = over_corners(k, w);
-    side_of(s, (d * UNIT) as i64, axis)
+    side_of(s, units(w, d), axis)
 }
 
 // The first of two that is one.

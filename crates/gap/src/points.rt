@@ -33,7 +33,7 @@ fn four_at(points: [i32; 24], at: usize) -> Four
 
 // The second body's coordinates negated where `turned` says so: those of points 1, 2, 3 of a vertex and a face, of 2, 3 of two edges.
 fn sided(turned: bool, face: bool, f: Four) -> Four
-    requires { ⌜ Near f ⌝ }
+    requires { ⌜ Near 536870912 f ⌝ }
     ensures { λ r. ⌜ r ≡ sidedFour turned face f ⌝ }
 {
     let p0 = f.p0;
@@ -67,7 +67,7 @@ fn end(face: bool, f: Four) -> Moment
 
 // An axis, by the coordinates at the start and at the end.
 pub fn kernel_of(s: Four, e: Four, turned: bool, face: bool) -> Kernel
-    requires { ⌜ Near s × Near e ⌝ }
+    requires { ⌜ Near 536870912 s × Near 536870912 e ⌝ }
     ensures { λ r. ⌜ r ≡ kernelBy s e turned face ⌝ }
 {
     let start = end(face, sided(turned, face, s));
@@ -84,7 +84,7 @@ pub fn kernel_of(s: Four, e: Four, turned: bool, face: bool) -> Kernel
 
 // The axis whose first coordinate stands at `at`.
 pub fn kernel_at(points: [i32; 24], at: usize, turned: bool, face: bool) -> Kernel
-    requires { ⌜ (at ≤ 2) × Coordinates points ⌝ }
+    requires { ⌜ (at ≤ 2) × Coordinates 536870912 points ⌝ }
     ensures { λ r. ⌜ r ≡ kernelAt points at turned face ⌝ }
 {
     kernel_of(four_at(points, at), four_at(points, at + 12), turned, face)

@@ -7,10 +7,10 @@ ghost use Rattle.rules.specs.Search.{survives};
 ghost use Rattle.kernel.specs.Kernel.{asked};
 ghost use Rattle.kernel.specs.Ranges.{Small, Ranged, Shallow, InGrid};
 ghost use Rattle.gap.specs.Slab.{edgeOf, stripOf, slabOf, changed, meetsStrip, limitMost, Moves, MovesStrip};
-ghost use Rattle.gap.specs.Steps.{InParts, SmallMoment, blendMost};
+ghost use Rattle.gap.specs.Steps.{InParts, Fine};
 use super::cell::Cell;
 use super::cell::cell_of;
-use super::measure::UNIT;
+use super::measure::units;
 use super::span::Moment;
 use super::span::at_moment;
 use super::span::over_face;
@@ -42,7 +42,7 @@ pub struct Slab {
 
 // By the cell at u and v index 0.
 fn edge_of(m: Moment, w: Cell, limit: i64) -> Edge
-    requires { ⌜ SmallMoment blendMost m × (InParts w × Within limitMost limit) ⌝ }
+    requires { ⌜ Fine (w .parts) m × (InParts w × Within limitMost limit) ⌝ }
     ensures { λ r. ⌜ r ≡ edgeOf m w limit ⌝ }
 {
     let s = over_face(m, w);
@@ -54,21 +54,21 @@ fn edge_of(m: Moment, w: Cell, limit: i64) -> Edge
 }
 
 fn strip_of(k: Kernel, w: Cell, d: u64) -> Strip
-    requires { ⌜ Small k × (InParts w × (d ≤ 65536)) ⌝ }
+    requires { ⌜ Small (w .parts) k × (InParts w × (d ≤ 65536)) ⌝ }
     ensures { λ r. ⌜ r ≡ stripOf k w d ⌝ }
 {
-    let limit = (d * UNIT) as i64;
-    let start = edge_of(at_moment(k, w.t0), w, limit);
-    let end = edge_of(at_moment(k, w.t1), w, limit);
+    let limit = units(w, d);
+    let start = edge_of(at_moment(k, w.parts, w.t0), w, limit);
+    let end = edge_of(at_moment(k, w.parts, w.t1), w, limit);
     Strip { start, end }
 }
 
 // What the boxes with this t index share.
 pub fn slab_at(p: Pair, k: Three, t: u64) -> Slab
-    requires { ⌜ Ranged p × (Shallow k × (t < 2 ^ (k .t))) ⌝ }
+    requires { ⌜ Ranged p × (Shallow (p .deepest) k × (t < 2 ^ (k .t))) ⌝ }
     ensures { λ r. ⌜ r ≡ slabOf p k t ⌝ }
 {
-    let w = cell_of(k, Three { t, u: 0, v: 0 });
+    let w = cell_of(p.deepest, k, Three { t, u: 0, v: 0 });
     let x = strip_of(p.x, w, p.dx);
     let y = strip_of(p.y, w, p.dy);
     let z = strip_of(p.z, w, p.dz);
@@ -77,7 +77,7 @@ pub fn slab_at(p: Pair, k: Three, t: u64) -> Slab
 
 // The same where it may be at hand already.
 pub fn renewed(p: Pair, k: Three, t: u64, s: Slab) -> Slab
-    requires { ⌜ Ranged p × (Shallow k × ((t < 2 ^ (k .t)) × (s ≡ slabOf p k (s .t)))) ⌝ }
+    requires { ⌜ Ranged p × (Shallow (p .deepest) k × ((t < 2 ^ (k .t)) × (s ≡ slabOf p k (s .t)))) ⌝ }
     ensures { λ r. ⌜ r ≡ slabOf p k t ⌝ }
 {
     if s.t == t { s } else { slab_at(p, k, t) }
@@ -103,7 +103,7 @@ fn meets_strip(s: Strip, u: u64, v: u64) -> bool
 
 // Whether a box survives: z first, then x, then y, and the first axis that misses ends it.
 pub fn survives_in(p: Pair, k: Three, s: Slab, i: Three) -> bool
-    requires { ⌜ Ranged p × (Shallow k × (InGrid k i × (s ≡ slabOf p k (i .t)))) ⌝ }
+    requires { ⌜ Ranged p × (Shallow (p .deepest) k × (InGrid k i × (s ≡ slabOf p k (i .t)))) ⌝ }
     ensures { λ r. ⌜ r ≡ survives (asked p) k i ⌝ }
 {
     if meets_strip(s.z, i.u, i.v) {

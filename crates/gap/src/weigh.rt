@@ -7,9 +7,9 @@ ghost use lib.IntN.{natAbs};
 ghost use Rattle.whole.specs.Within.{Within};
 ghost use Rattle.rules.specs.Search.{spread, side, winner};
 ghost use Rattle.kernel.specs.Kernel.{asked};
-ghost use Rattle.kernel.specs.Ranges.{Small, Ranged};
+ghost use Rattle.kernel.specs.Ranges.{Ranged};
 ghost use Rattle.gap.specs.Steps.{SmallMoment};
-ghost use Rattle.gap.specs.Spread.{changeOf, stepOf, wayOf, StepFits, changeMost, spreadMost};
+ghost use Rattle.gap.specs.Spread.{Numbers, changeOf, stepOf, wayOf, StepFits, changeMost, spreadMost};
 use super::span::Moment;
 use kernel::Kernel;
 use kernel::Pair;
@@ -19,7 +19,7 @@ use whole::size;
 
 // How A, B, C of an axis change from start to end.
 fn change(k: Kernel) -> Moment
-    requires { ⌜ Small k ⌝ }
+    requires { ⌜ Numbers k ⌝ }
     ensures { λ r. ⌜ r ≡ changeOf k ⌝ }
 {
     let a = k.a1 - k.a0;
@@ -92,12 +92,16 @@ pub fn spread_v(p: Pair) -> u64
     larger(start, end)
 }
 
-// A spread at a depth, and one more; 0 at depth 20, which takes no part.
-pub fn weight(spread: u64, k: u64) -> u64
+// A spread at a depth, and one more; 0 at the depth limit, which takes no part.
+pub fn weight(deepest: u64, spread: u64, k: u64) -> u64
     requires { ⌜ (spread ≤ spreadMost) × (k ≤ 20) ⌝ }
-    ensures { λ r. ⌜ r ≡ cond (eqb k 20) 0 (1 + spread * side k) ⌝ }
+    ensures { λ r. ⌜ r ≡ cond (eqb k deepest) 0 (1 + spread * side k) ⌝ }
 {
-    if k == 20 { 0 } else { 1 + (spread << (20 - k)) }
+    if k == deepest {
+        0
+    } else {
+        1 + (spread << (20 - k))
+    }
 }
 
 // The parameter of the largest weight; ties go to t, then u.

@@ -4,7 +4,6 @@ use mathlib.Core.List.{List}
 use Prim.Native.Nat.{ℕ, _+_, _*_}
 use lib.IntN.{ℤ, pos, _+ℤ_, _-ℤ_, _*ℤ_}
 use lib.ListN.{getD}
-use Rattle.rules.specs.Numbers.{deepest}
 use Rattle.rules.specs.declared.Axis.{Axis}
 use Rattle.rules.specs.declared.Axis.the-variants.{X, Y, Z}
 use Rattle.rules.specs.Gap.{place}
@@ -54,5 +53,5 @@ asked p =
       tolerance = p .tolerance;
       budget = p .budget;
       room = p .room;
-      deepest = deepest;
+      deepest = p .deepest;
     }

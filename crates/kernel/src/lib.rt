@@ -10,7 +10,7 @@ pub struct Kernel {
     pub c1: i64,
 }
 
-// What the search goes by, as the code holds it: a kernel and a separation an axis, and the record's other numbers. `room` is H.
+// What the search goes by, as the code holds it: a kernel and a separation an axis, and the record's other numbers. `room` is H, `deepest` the depth limit.
 pub struct Pair {
     pub x: Kernel,
     pub y: Kernel,
@@ -22,4 +22,5 @@ pub struct Pair {
     pub tolerance: u64,
     pub budget: u32,
     pub room: usize,
+    pub deepest: u64,
 }

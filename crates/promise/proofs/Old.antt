@@ -9,7 +9,7 @@ use lib.Signed.{leZ}
 use lib.Dec.{leb, eqb}
 use Rattle.rules.specs.declared.Record.{Record}
 use Rattle.rules.specs.declared.Corner.{Corner}
-use Rattle.rules.specs.Numbers.{parts, isSeparation}
+use Rattle.rules.specs.Numbers.{limitsOf, parts, isSeparation}
 use Rattle.rules.specs.declared.Axis.{Axis}
 use Rattle.rules.specs.declared.Axis.the-variants.{X, Y, Z}
 use Rattle.rules.specs.Gap.{separationOn}
@@ -70,7 +70,7 @@ module _ (q : Query) (d : ℕ) (e : (axis : Axis) → q .separation axis ≡ d) 
   run-old = levels-old 61 origin (origin ∷ []) (record { t = 0; u = 0; v = 0; excess = 0 }) 0
 
 -- ---- a record
-module _ (r : Record) (d words : ℕ) (x : r .dx ≡ d) (y : r .dy ≡ d) (z : r .dz ≡ d) (spare : r .spare ≡ 0) where
+module _ (r : Record) (d words : ℕ) (x : r .dx ≡ d) (y : r .dy ≡ d) (z : r .dz ≡ d) (spare : r .spare ≡ 0) (limits : limitsOf (r .edition) ≡ limitsOf 1) where
   separation-old : (axis : Axis) → separationOn r axis ≡ d
   separation-old X = x
   separation-old Y = y
@@ -88,15 +88,15 @@ module _ (r : Record) (d words : ℕ) (x : r .dx ≡ d) (y : r .dy ≡ d) (z : r
 
   refusal-old : searchRefusal r words ≡ oldRefusal r d words
   unfolding searchRefusal oldRefusal first
-  refusal-old = rw (flags-old, range-old)
+  refusal-old = rw (limits, flags-old, range-old)
 
   search-old : search r words ≡ oldSearch r d words
   unfolding search oldSearch
   search-old = λ i. unless (refusal-old i) (run-old (query r words) d separation-old i)
 
 pub three-equal : Three-equal
-three-equal r d words x y z spare = search-old r d words x y z spare
+three-equal r d words x y z spare limits = search-old r d words x y z spare limits
 
 pub edition-1-as-before : Edition-1-as-before
 unfolding recordBy
-edition-1-as-before s at words = search-old (recordAt 1 s at) (word s (at + 8)) words refl refl refl refl
+edition-1-as-before s at words = search-old (recordAt 1 s at) (word s (at + 8)) words refl refl refl refl refl

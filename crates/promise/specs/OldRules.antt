@@ -11,7 +11,7 @@ use Rattle.rules.specs.declared.Record.{Record}
 use Rattle.rules.specs.declared.Corner.{Corner}
 use Rattle.rules.specs.declared.Answer.{Answer}
 use Rattle.rules.specs.declared.Answer.the-variants.{Spent, Refused}
-use Rattle.rules.specs.Numbers.{parts, isCoordinate, isSeparation, isTolerance, isBudget, isQueue}
+use Rattle.rules.specs.Numbers.{limitsOf, parts, isCoordinate, isSeparation, isTolerance, isBudget, isQueue}
 use Rattle.rules.specs.Refusals.{first, every}
 use Rattle.rules.specs.Search.{Query, query, Box, Depths, low, unit, least, greatest, onAll, largest, width, roundUp, withCount, Checked, answered, through, keep, firstSurvivor, full, afterLevel, origin, unless, search}
 use Rattle.rules.specs.QueryFile.{word, recordAt}
@@ -64,9 +64,9 @@ oldRefusal r d words =
     first
     (record { number = 1; due = not (eqb (r .kind) 1 || eqb (r .kind) 2) }
     ∷ record { number = 2; due = not (leb (r .flags) 1 && eqb (r .byte2) 0 && eqb (r .byte3) 0) }
-    ∷ record { number = 3; due = not (every isCoordinate (r .points)) }
+    ∷ record { number = 3; due = not (every (isCoordinate (limitsOf 1)) (r .points)) }
     ∷ record { number = 4; due = not (isSeparation d) }
-    ∷ record { number = 5; due = not (isTolerance (r .tolerance)) }
+    ∷ record { number = 5; due = not (isTolerance (limitsOf 1) (r .tolerance)) }
     ∷ record { number = 6; due = not (isBudget (r .budget)) }
     ∷ record { number = 7; due = not (isQueue words) }
     ∷ [])
@@ -78,7 +78,7 @@ oldSearch r d words = unless (oldRefusal r d words) (oldRun (query r words) d)
 
 -- a record with three equal separations is answered as the old rules answer it with that one
 abbrev pub Three-equal : Type 0
-Three-equal = (r : Record) (d words : ℕ) → r .dx ≡ d → r .dy ≡ d → r .dz ≡ d → r .spare ≡ 0 → search r words ≡ oldSearch r d words
+Three-equal = (r : Record) (d words : ℕ) → r .dx ≡ d → r .dy ≡ d → r .dz ≡ d → r .spare ≡ 0 → limitsOf (r .edition) ≡ limitsOf 1 → search r words ≡ oldSearch r d words
 
 -- so is an edition 1 record wherever it stands, with its "separation (8)"
 abbrev pub Edition-1-as-before : Type 0

@@ -17,7 +17,7 @@ use Rattle.rules.specs.declared.Record.{Record}
 use Rattle.rules.specs.declared.Form.{Form}
 use Rattle.rules.specs.declared.Opened.the-variants.{Records}
 use Rattle.rules.specs.Refusals.{first, recordRefusal}
-use Rattle.rules.specs.QueryFile.{word, wordBytes, stands, isEdition, isWide, recordSize, recordAt, recordBytes, queryForm, editionOf, fileForm, editionBytes, trailerBytes, recordsBytes, fileBytes, openRefusal, openUnless, opened, noRecord, fetchUnless, fetched, put}
+use Rattle.rules.specs.QueryFile.{word, wordBytes, stands, isEdition, isWide, recordSize, recordBy, recordAt, recordBytes, queryForm, editionFor, editionOf, fileForm, editionBytes, trailerBytes, recordsBytes, fileBytes, openRefusal, openUnless, opened, noRecord, fetchUnless, fetched, put}
 use Rattle.little.specs.Word.{length-word, word-at}
 use Rattle.little.specs.Stands.{stands-there}
 use Rattle.queries.specs.Sizes.{size-zero, size-suc, few-size}
@@ -84,14 +84,14 @@ module _ (form : Form) (n : ℕ) (four-long : length (form .mark) ≡ 4) where
 -- ---- a list of records
 abbrev pub AllHeld : ℕ → List Record → Type 0
 AllHeld edition [] = Unit {0}
-AllHeld edition (r ∷ rs) = Held (isWide edition) r × AllHeld edition rs
+AllHeld edition (r ∷ rs) = Held (isWide edition) r × (r .edition ≡ edition) × AllHeld edition rs
 
 pub length-records : (edition : ℕ) (rs : List Record) → AllHeld edition rs → length (recordsBytes edition rs) ≡ recordSize edition * length rs
 unfolding recordsBytes
 length-records edition [] h = sym (size-zero (isWide edition))
 length-records edition (r ∷ rs) h =
     length-append (recordBytes edition r) (recordsBytes edition rs)
-    ∙ (λ i. length-record (isWide edition) r (h .0) i + length-records edition rs (h .1) i)
+    ∙ (λ i. length-record (isWide edition) r (h .0) i + length-records edition rs (h .2) i)
     ∙ sym (size-suc (isWide edition) (length rs))
 
 -- record k stands behind k records
@@ -105,9 +105,10 @@ record-in edition (r ∷ rs) zero before rest h l =
     let e : s ≡ before ++ (recordBytes edition r ++ (bytes ++ rest)) = simp append-assoc in
     let p : length before + recordSize edition * 0 ≡ length before = omega (arith, size-zero (isWide edition)) in
     ap (recordAt edition s) p
-    ∙ sym (record-drop (isWide edition) s (length before))
+    ∙ sym (record-drop (isWide edition) edition s (length before))
     ∙ ap (λ (x : List ℕ). recordAt edition (drop (length before) x) 0) e
     ∙ ap (λ (x : List ℕ). recordAt edition x 0) (drop-append-seam before (recordBytes edition r ++ (bytes ++ rest)))
+    ∙ ap (λ (e : ℕ). recordBy (isWide edition) e (recordBytes edition r ++ (bytes ++ rest)) 0) (sym (h .1))
     ∙ front (isWide edition) r (bytes ++ rest) (h .0)
 record-in edition (r ∷ rs) (suc k) before rest h l =
     let one = recordBytes edition r in
@@ -117,16 +118,17 @@ record-in edition (r ∷ rs) (suc k) before rest h l =
     omega (arith, length-append before one, length-record (isWide edition) r (h .0), size-suc (isWide edition) k) in
     ap (λ (x : List ℕ). recordAt edition x (length before + recordSize edition * suc k)) e
     ∙ ap (recordAt edition (before ++ one ++ bytes ++ rest)) p
-    ∙ record-in edition rs k (before ++ one) rest (h .1) (omega arith)
+    ∙ record-in edition rs k (before ++ one) rest (h .2) (omega arith)
 
 -- ---- a file of them
-named : (edition : ℕ) → isEdition edition ≡ true → cond (isWide edition) 2 1 ≡ edition
-named edition e = go (eqb edition 1) (eqb edition 2) refl refl e
+named : (edition : ℕ) → isEdition edition ≡ true → editionFor edition ≡ edition
+named edition e = go (eqb edition 1) (eqb edition 2) (eqb edition 3) refl e
   where
-    go : (one two : Bool) → eqb edition 1 ≡ one → eqb edition 2 ≡ two → (one || two) ≡ true → cond two 2 1 ≡ edition
-    go one true f g h = sym (eqb-true edition 2 g)
-    go true false f g h = sym (eqb-true edition 1 f)
-    go false false f g h = let z : _≡_ {A = ℕ} 0 1 = cc in absurd (omega arith)
+    go : (one two three : Bool) → eqb edition 1 ≡ one → (one || two || three) ≡ true → cond (two || three) edition 1 ≡ edition
+    go one true three f h = refl
+    go one false true f h = refl
+    go true false false f h = sym (eqb-true edition 1 f)
+    go false false false f h = let z : _≡_ {A = ℕ} 0 1 = cc in absurd (omega arith)
 
 module _ (edition : ℕ) (free : List ℕ) (rs : List Record) (is : isEdition edition ≡ true) (all : AllHeld edition rs) (few : length rs ≤ 4096) where
   before : List ℕ
@@ -139,7 +141,7 @@ module _ (edition : ℕ) (free : List ℕ) (rs : List Record) (is : isEdition ed
       let tail = trailerBytes (queryForm edition) (length rs) in
       let t : length (before ++ tail) - 16 ≡ length before = omega (arith, length-append before tail, length-trailer (queryForm edition) (length rs) refl) in
       let there : getD (before ++ tail) (length before + 4) 0 ≡ edition = getD-append-add before tail 4 0 in
-      ap (λ (n : ℕ). cond (isWide (getD (before ++ tail) (n + 4) 0)) 2 1) t ∙ ap (λ (n : ℕ). cond (isWide n) 2 1) there ∙ named edition is
+      ap (λ (n : ℕ). editionFor (getD (before ++ tail) (n + 4) 0)) t ∙ ap editionFor there ∙ named edition is
 
   pub file-opens : opened (fileForm (fileBytes edition free rs)) (fileBytes edition free rs) ≡ Records edition (length free) (length rs)
   unfolding fileBytes before

@@ -11,7 +11,7 @@ use mathlib.Core.Path.{_≡_, refl, sym, ap, _∙_}
 use mathlib.Core.Bool.{Bool, true, false, not, cond, _&&_, _||_}
 use mathlib.Core.List.{List, [], _∷_}
 use native.Mathlib.Omega.{arith}
-use borrow.Author.Tests.{not-false, ltb-false, eqb-true, lt-ltb, le-ltb}
+use borrow.Author.Tests.{eq-eqb, not-false, ltb-false, eqb-true, lt-ltb, le-ltb}
 use lib.Dec.{ltb, eqb}
 use lib.ListN.{length, getD, drop}
 use Rattle.rules.specs.declared.Record.{Record}
@@ -22,21 +22,24 @@ use Rattle.rules.specs.QueryFile.{stands, isEdition, isWide, recordSize, editio
 use Rattle.queries.specs.Sizes.{record-within, short-size}
 use Rattle.refusals.specs.Cases.{first-then, not-due}
 
--- a file is not refused 10 exactly when its edition is 1 or 2 and the three bytes behind that are zero
+-- a file is not refused 10 exactly when its edition is 1, 2 or 3 and the three bytes behind that are zero
 pub ten-exactly : (s : List ℕ) → let at = trailerPlace s + 4 in stands s at (editionBytes (fileForm s)) ≡ (isEdition (getD s at 0) && stands s (at + 1) (0 ∷ 0 ∷ 0 ∷ []))
 unfolding stands
 ten-exactly s =
     let at = trailerPlace s + 4 in
-    ap (λ (b : Bool). b && stands s (at + 1) (0 ∷ 0 ∷ 0 ∷ [])) (go (eqb (getD s at 0) 1) (eqb (getD s at 0) 2) refl refl)
+    ap (λ (b : Bool). b && stands s (at + 1) (0 ∷ 0 ∷ 0 ∷ [])) (go (eqb (getD s at 0) 1) (eqb (getD s at 0) 2) (eqb (getD s at 0) 3) refl)
   where
     b : ℕ
     b = getD s (trailerPlace s + 4) 0
 
-    go : (one two : Bool) → eqb b 1 ≡ one → eqb b 2 ≡ two → eqb b (cond two 2 1) ≡ (one || two)
-    go true true e f = f
-    go true false e f = e
-    go false true e f = f
-    go false false e f = e
+    -- what it says is its edition, where that is 2 or 3, else 1
+    go : (one two three : Bool) → eqb b 1 ≡ one → eqb b (cond (two || three) b 1) ≡ (one || two || three)
+    go true true three e = eq-eqb b b refl
+    go true false true e = eq-eqb b b refl
+    go true false false e = e
+    go false true three e = eq-eqb b b refl
+    go false false true e = eq-eqb b b refl
+    go false false false e = e
 
 pub refused-open : (k edition place n : ℕ) → (k ≡ 0 → ⊥) → Refused k ≡ openUnless k edition place n
 unfolding openUnless

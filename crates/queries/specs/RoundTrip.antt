@@ -4,23 +4,24 @@
 --     read-back       what was put is read as the record; `written-back` of a writer's buffer, whatever the record that it did not refuse
 --     write-back      to put the record that stands at a place there again changes nothing
 --     same-record     no two records have the same bytes
--- All of either edition, by whether its record is wide. Assumes nothing.
+-- All of any edition, by whether its record is wide. What is read is of the edition that it is read by. Assumes nothing.
 use Prim.Native.Nat.{ℕ, suc, _+_, _*_, _≤_, _<_}
 use mathlib.Core.Path.{_≡_, refl, sym, ap, _∙_}
 use mathlib.Core.Bool.{Bool, true, false, not, _&&_, _||_, and-eq-true-iff}
 use mathlib.Core.List.{List, [], _∷_, _++_, append-assoc}
 use mathlib.Core.Logic.{⊎-elim}
-use native.Mathlib.Nat.{add-zero}
+use native.Mathlib.Nat.{add-zero, le-trans}
 use native.Mathlib.Omega.{arith}
 use borrow.Author.Tests.{eqb-true}
-use lib.Dec.{eqb}
+use lib.Dec.{eqb, lit≤}
 use lib.IntN.{ℤ, pos, negsuc, natAbs}
 use lib.ListN.{length, getD, take, drop, length-drop}
 use lib.Seq.{getD-drop, take-add}
 use mir.Syntax.{w32}
 use mir.Val.{SFits}
 use Rattle.rules.specs.declared.Record.{Record}
-use Rattle.rules.specs.QueryFile.{word, wordBytes, coordinatesAt, coordinateBytes, isWide, sizeBy, recordSize, recordBy, recordAt, bytesBy, recordBytes, put, putUnless, writeRefusal}
+use Rattle.rules.specs.Numbers.{limitsBy}
+use Rattle.rules.specs.QueryFile.{word, wordBytes, coordinatesAt, coordinateBytes, isWide, sizeBy, recordSize, recordBy, recordAt, bytesBy, recordBytes, put, putUnless, inEdition, writeRefusal}
 use Rattle.refusals.specs.Accepted.{Accepted}
 use Rattle.little.specs.Put.{drop-put, put-same}
 use Rattle.little.specs.Word.{Bytes, word-drop, word-at, word-lt, word-same, digits}
@@ -52,13 +53,18 @@ pub record Held (wide : Bool) (r : Record) : Type 0 where
   pub points : Each (r .points)
   pub narrow : wide ≡ false → Narrow r
 
-small-fits : (z : ℤ) → natAbs z ≤ 1048576 → SFits w32 z
+small-fits : (z : ℤ) → natAbs z ≤ 536870912 → SFits w32 z
 small-fits (pos n) h = record { sfits = omega arith }
 small-fits (negsuc n) h = record { sfits = omega arith }
 
-each : (zs : List ℤ) → ((i : ℕ) → natAbs (getD zs i (pos 0)) ≤ 1048576) → Each zs
+each : (zs : List ℤ) → ((i : ℕ) → natAbs (getD zs i (pos 0)) ≤ 536870912) → Each zs
 each [] h = tt
 each (z ∷ zs) h = (small-fits z (h 0), each zs (λ i. h (suc i)))
+
+-- no edition's coordinates go further
+in-all : (longer : Bool) → limitsBy longer .coordinate ≤ 536870912
+in-all true = lit≤ tt
+in-all false = lit≤ tt
 
 pub held : (wide : Bool) (r : Record) → Accepted r → (wide ≡ false → Narrow r) → r .id < 4294967296 → length (r .points) ≡ 24 → Held wide r
 held wide r a w i n =
@@ -75,35 +81,35 @@ held wide r a w i n =
       budget = omega (arith, a .budget-most);
       spare = omega (arith, a .spare);
       count = n;
-      points = each (r .points) (a .coordinate);
+      points = each (r .points) (λ i. le-trans (a .coordinate i) (in-all (eqb (r .edition) 3)));
       narrow = w;
     }
 
 -- what a writer does not refuse is such
-pub narrow : {edition : ℕ} {s : List ℕ} {at : ℕ} (r : Record) → WriteRoom edition s at r → isWide edition ≡ false → Narrow r
-narrow {edition} r w e = go (eqb edition 1) (eqb edition 2) e (w .named) (w .separations)
+pub narrow : {edition : ℕ} {s : List ℕ} {at : ℕ} (r : Record) → WriteRoom edition s at r → isWide edition ≡ false → Narrow (inEdition edition r)
+narrow {edition} r w e = go (eqb edition 1) (eqb edition 2) (eqb edition 3) e (w .named) (w .separations)
   where
     equal : Bool
     equal = eqb (r .dx) (r .dy) && eqb (r .dx) (r .dz)
 
-    go : (one two : Bool) → two ≡ false → (one || two) ≡ true → (not one || equal) ≡ true → Narrow r
-    go true two f g k =
+    go : (one two three : Bool) → (two || three) ≡ false → (one || two || three) ≡ true → (not one || equal) ≡ true → Narrow (inEdition edition r)
+    go true two three f g k =
         let h = and-eq-true-iff (eqb (r .dx) (r .dy)) (eqb (r .dx) (r .dz)) .0 k in
         record { dy = eqb-true (r .dx) (r .dy) (h .0); dz = eqb-true (r .dx) (r .dz) (h .1); spare = sym (w .accepted .spare) }
-    go false two f g k = let z : _≡_ {A = Bool} true false = sym g ∙ f in let y : _≡_ {A = ℕ} 0 1 = cc in absurd (omega arith)
+    go false two three f g k = let z : _≡_ {A = Bool} true false = sym g ∙ f in let y : _≡_ {A = ℕ} 0 1 = cc in absurd (omega arith)
 
 -- ---- a record
-pub record-drop : (wide : Bool) (s : List ℕ) (at : ℕ) → recordBy wide (drop at s) 0 ≡ recordBy wide s at
+pub record-drop : (wide : Bool) (edition : ℕ) (s : List ℕ) (at : ℕ) → recordBy wide edition (drop at s) 0 ≡ recordBy wide edition s at
 unfolding recordBy
-record-drop true s at = simp (getD-drop, word-drop, coordinates-drop, add-zero)
-record-drop false s at = simp (getD-drop, word-drop, coordinates-drop, add-zero)
+record-drop true edition s at = simp (getD-drop, word-drop, coordinates-drop, add-zero)
+record-drop false edition s at = simp (getD-drop, word-drop, coordinates-drop, add-zero)
 
 pub length-record : (wide : Bool) (r : Record) → Held wide r → length (bytesBy wide r) ≡ sizeBy wide
 unfolding bytesBy wordBytes
 length-record true r h = omega (arith, length-bytes (r .points), h .count)
 length-record false r h = omega (arith, length-bytes (r .points), h .count)
 
-pub front : (wide : Bool) (r : Record) (t : List ℕ) → Held wide r → recordBy wide (bytesBy wide r ++ t) 0 ≡ r
+pub front : (wide : Bool) (r : Record) (t : List ℕ) → Held wide r → recordBy wide (r .edition) (bytesBy wide r ++ t) 0 ≡ r
 unfolding recordBy bytesBy wordBytes
 front true r t h =
     let l = bytesBy true r ++ t in
@@ -128,6 +134,7 @@ front true r t h =
       tolerance = e3 i;
       budget = e4 i;
       spare = e6 i;
+      edition = r .edition;
       points = e5 i;
     }
 front false r t h =
@@ -154,32 +161,62 @@ front false r t h =
       tolerance = e3 i;
       budget = e4 i;
       spare = e6 i;
+      edition = r .edition;
       points = e5 i;
     }
 
+-- as one of an edition it is held, and has the same bytes
+as-one : {wide : Bool} {r : Record} (edition : ℕ) → Held wide r → Held wide (inEdition edition r)
+as-one edition h =
+    record {
+      kind = h .kind;
+      flags = h .flags;
+      byte2 = h .byte2;
+      byte3 = h .byte3;
+      id = h .id;
+      dx = h .dx;
+      dy = h .dy;
+      dz = h .dz;
+      tolerance = h .tolerance;
+      budget = h .budget;
+      spare = h .spare;
+      count = h .count;
+      points = h .points;
+      narrow = λ e. let w = h .narrow e in record { dy = w .dy; dz = w .dz; spare = w .spare };
+    }
+
+same-as : (wide : Bool) (edition : ℕ) (r : Record) → bytesBy wide (inEdition edition r) ≡ bytesBy wide r
+unfolding bytesBy
+same-as true edition r = refl
+same-as false edition r = refl
+
+front-as : (edition : ℕ) (r : Record) (t : List ℕ) → Held (isWide edition) r → recordAt edition (recordBytes edition r ++ t) 0 ≡ inEdition edition r
+front-as edition r t h =
+    ap (λ (l : List ℕ). recordAt edition (l ++ t) 0) (sym (same-as (isWide edition) edition r)) ∙ front (isWide edition) (inEdition edition r) t (as-one edition h)
+
 pub read-back : (edition : ℕ) (s : List ℕ) (at : ℕ) (r : Record) → Held (isWide edition) r → at + recordSize edition ≤ length s
-    → recordAt edition (put s at (recordBytes edition r)) at ≡ r
+    → recordAt edition (put s at (recordBytes edition r)) at ≡ inEdition edition r
 read-back edition s at r h room =
-    sym (record-drop (isWide edition) (put s at (recordBytes edition r)) at)
+    sym (record-drop (isWide edition) edition (put s at (recordBytes edition r)) at)
     ∙ ap (λ (l : List ℕ). recordAt edition l 0) (drop-put s at (recordBytes edition r) (omega (arith, length-record (isWide edition) r h)))
-    ∙ front (isWide edition) r (drop (at + length (recordBytes edition r)) s) h
+    ∙ front-as edition r (drop (at + length (recordBytes edition r)) s) h
 
 -- the buffer that a writer leaves when it is done: what it does not refuse is such a record
 pub written-back : (edition : ℕ) (s : List ℕ) (at : ℕ) (r : Record) → r .id < 4294967296 → length (r .points) ≡ 24 → writeRefusal edition s at r ≡ 0
-    → recordAt edition (putUnless (writeRefusal edition s at r) s at (recordBytes edition r)) at ≡ r
+    → recordAt edition (putUnless (writeRefusal edition s at r) s at (recordBytes edition r)) at ≡ inEdition edition r
 unfolding putUnless
 written-back edition s at r i n e =
     let w = write-room edition s at r e in
-    rw e (read-back edition s at r (held (isWide edition) r (w .accepted) (narrow r w) i n) (w .room))
+    let h = held (isWide edition) (inEdition edition r) (w .accepted) (narrow r w) i n in
+    rw e (ap (λ (l : List ℕ). recordAt edition (put s at l) at) (sym (same-as (isWide edition) edition r)) ∙ read-back edition s at (inEdition edition r) h (w .room))
 
-pub same-record : (edition : ℕ) (r r′ : Record) → Held (isWide edition) r → Held (isWide edition) r′ → recordBytes edition r ≡ recordBytes edition r′ → r ≡ r′
-same-record edition r r′ h h′ e =
-    sym (front (isWide edition) r [] h) ∙ ap (λ (l : List ℕ). recordAt edition (l ++ []) 0) e ∙ front (isWide edition) r′ [] h′
+pub same-record : (edition : ℕ) (r r′ : Record) → Held (isWide edition) r → Held (isWide edition) r′ → recordBytes edition r ≡ recordBytes edition r′ → inEdition edition r ≡ inEdition edition r′
+same-record edition r r′ h h′ e = sym (front-as edition r [] h) ∙ ap (λ (l : List ℕ). recordAt edition (l ++ []) 0) e ∙ front-as edition r′ [] h′
 
 -- ---- a record that stands in bytes
-pub read-held : (wide : Bool) (s : List ℕ) (at : ℕ) → Bytes s → Held wide (recordBy wide s at)
+pub read-held : (wide : Bool) (edition : ℕ) (s : List ℕ) (at : ℕ) → Bytes s → Held wide (recordBy wide edition s at)
 unfolding recordBy
-read-held true s at b =
+read-held true edition s at b =
     let h = each-read 24 s (at + 32) b in
     record {
       kind = b at;
@@ -197,7 +234,7 @@ read-held true s at b =
       points = h .1;
       narrow = λ e. let z : _≡_ {A = ℕ} 0 1 = cc in absurd (omega arith);
     }
-read-held false s at b =
+read-held false edition s at b =
     let h = each-read 24 s (at + 20) b in
     record {
       kind = b at;
@@ -252,9 +289,9 @@ wide-parts s =
       ← take-add 32 96 s,
     )
 
-same-bytes : (wide : Bool) (s : List ℕ) → Bytes s → sizeBy wide ≤ length s → bytesBy wide (recordBy wide s 0) ≡ take (sizeBy wide) s
+same-bytes : (wide : Bool) (edition : ℕ) (s : List ℕ) → Bytes s → sizeBy wide ≤ length s → bytesBy wide (recordBy wide edition s 0) ≡ take (sizeBy wide) s
 unfolding recordBy bytesBy
-same-bytes true s b h =
+same-bytes true edition s b h =
     let w0 = four-bytes s b (omega arith) in
     let w1 = word-same s b 4 (omega arith) in
     let w2 = word-same s b 8 (omega arith) in
@@ -266,7 +303,7 @@ same-bytes true s b h =
     let w8 = coordinates-same 24 s 32 b h in
     (λ i. w0 i ++ w1 i ++ (w2 i ++ w3 i ++ w4 i ++ w5 i ++ w6 i ++ w7 i) ++ w8 i)
     ∙ wide-parts s
-same-bytes false s b h =
+same-bytes false edition s b h =
     let w0 = four-bytes s b (omega arith) in
     let w1 = word-same s b 4 (omega arith) in
     let w2 = word-same s b 8 (omega arith) in
@@ -281,8 +318,8 @@ bytes-drop s at b i = rw (getD-drop at s i 0) (b (at + i))
 module _ (edition : ℕ) (s : List ℕ) (at : ℕ) (b : Bytes s) (room : at + recordSize edition ≤ length s) where
   pub record-bytes : recordBytes edition (recordAt edition s at) ≡ take (recordSize edition) (drop at s)
   record-bytes =
-      ap (recordBytes edition) (sym (record-drop (isWide edition) s at))
-      ∙ same-bytes (isWide edition) (drop at s) (bytes-drop s at b) (simp length-drop (omega arith))
+      ap (recordBytes edition) (sym (record-drop (isWide edition) edition s at))
+      ∙ same-bytes (isWide edition) edition (drop at s) (bytes-drop s at b) (simp length-drop (omega arith))
 
   pub write-back : put s at (recordBytes edition (recordAt edition s at)) ≡ s
   write-back = ap (put s at) record-bytes ∙ put-same s at (recordSize edition) room

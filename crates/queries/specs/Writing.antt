@@ -19,7 +19,7 @@ use Rattle.rules.specs.declared.Form.{Form}
 use Rattle.rules.specs.declared.Wrote.{Wrote}
 use Rattle.rules.specs.declared.Wrote.the-variants.{Done, Refused}
 use Rattle.rules.specs.Refusals.{Case, first, casesWith}
-use Rattle.rules.specs.QueryFile.{isEdition, isWide, sizeBy, recordSize, queryForm, put, noEdition, space, hasRoom, writeRefusal, trailerRefusal, queryTrailerRefusal, wroteUnless, putUnless, Written}
+use Rattle.rules.specs.QueryFile.{isEdition, isWide, sizeBy, recordSize, queryForm, put, noEdition, space, hasRoom, inEdition, writeRefusal, trailerRefusal, queryTrailerRefusal, wroteUnless, putUnless, Written}
 use Rattle.refusals.specs.Cases.{firstOr, first-append, not-due}
 use Rattle.refusals.specs.Accepted.{Accepted, accepted-with}
 
@@ -40,7 +40,7 @@ module _ (n : ℕ) (s : List ℕ) (at : ℕ) (bytes : List ℕ) where
 
 -- ---- a record
 pub record WriteRoom (edition : ℕ) (s : List ℕ) (at : ℕ) (r : Record) : Type 0 where
-  pub accepted : Accepted r
+  pub accepted : Accepted (inEdition edition r)
   pub separations : hasRoom edition r ≡ true
   pub named : isEdition edition ≡ true
   pub room : at + recordSize edition ≤ length s
@@ -49,14 +49,14 @@ module _ (edition : ℕ) (s : List ℕ) (at : ℕ) (r : Record) where
   behind : List Case
   behind = noEdition edition ∷ space s at (recordSize edition) ∷ []
 
-  pub write-is : writeRefusal edition s at r ≡ firstOr (casesWith (hasRoom edition r) r) (cond (not (isEdition edition)) 10 (cond (ltb (length s - at) (recordSize edition)) 14 0))
+  pub write-is : writeRefusal edition s at r ≡ firstOr (casesWith (hasRoom edition r) (inEdition edition r)) (cond (not (isEdition edition)) 10 (cond (ltb (length s - at) (recordSize edition)) 14 0))
   unfolding writeRefusal first behind
-  write-is = first-append (casesWith (hasRoom edition r) r) behind
+  write-is = first-append (casesWith (hasRoom edition r) (inEdition edition r)) behind
 
   pub write-room : writeRefusal edition s at r ≡ 0 → WriteRoom edition s at r
   unfolding writeRefusal behind
   write-room e =
-      let h = accepted-with (hasRoom edition r) r behind e in
+      let h = accepted-with (hasRoom edition r) (inEdition edition r) behind e in
       let ten = not-due 9 (not (isEdition edition)) (space s at (recordSize edition) ∷ []) (h .2) in
       let l = ltb-false (length s - at) (recordSize edition) (not-due 13 (ltb (length s - at) (recordSize edition)) [] (ten .1) .0) in
       record { accepted = h .0; separations = h .1; named = not-false _ (ten .0); room = fits (isWide edition) (length s) l }

@@ -1,17 +1,19 @@
-// The query file, read and written, in both editions.
+// The query file, read and written, in every edition.
 ghost use mathlib.Core.Path.{_≡_};
 ghost use Prim.Native.Nat.{_+_, _-_, _*_, _≤_};
 ghost use lib.ListN.{length, getD};
-ghost use Rattle.rules.specs.QueryFile.{isEdition, recordBytes, trailerBytes, queryForm, editionOf, fileForm, put, opened, fetched, noRecord, hasRoom, writeRefusal, trailerRefusal, queryTrailerRefusal, Written};
+ghost use Rattle.rules.specs.QueryFile.{recordBytes, trailerBytes, queryForm, editionOf, fileForm, put, opened, fetched, noRecord, hasRoom, inEdition, writeRefusal, trailerRefusal, queryTrailerRefusal, Written};
 use little::read_u32;
 use little::stands4;
 use little::write_u32;
 use little::write4;
 use record::decode;
 use record::encode;
+use record::is_wide;
 use record::place_of;
 use record::record_size;
 use refusals::first;
+use refusals::is_edition;
 use refusals::record_refusal;
 use refusals::refusal_with;
 use rules::Fetched;
@@ -92,12 +94,13 @@ fn byte_at(s: &[u8], at: usize) -> u8
     if at < s.len() { s[at] } else { 0 }
 }
 
-// The edition that a file is read by: 2 where its trailer says so, else 1.
+// The edition that a file is read by: 2 or 3 where its trailer says so, else 1.
 fn edition_of(s: &[u8]) -> u8
     ensures { λ r. ⌜ r ≡ editionOf (now (s .entry)) ⌝ }
 {
     let t = left_from(s.len(), 16);
-    if byte_at(s, t + 4) == 2 { 2 } else { 1 }
+    let named = byte_at(s, t + 4);
+    if is_wide(named) { named } else { 1 }
 }
 
 pub fn open_file(s: &[u8]) -> Opened
@@ -125,6 +128,7 @@ fn no_record() -> Record
         tolerance: 0,
         budget: 0,
         spare: 0,
+        edition: 1,
         points,
     }
 }
@@ -160,17 +164,20 @@ pub fn fetch(s: &[u8], n: usize) -> Fetched
 
 // ---- writing
 
-fn is_edition(edition: u8) -> bool
-    ensures { λ b. ⌜ b ≡ isEdition edition ⌝ }
-{
-    (edition == 1) | (edition == 2)
-}
-
 // Whether a record of the edition has room for the separations: edition 1 holds one.
 fn has_room(edition: u8, r: Record) -> bool
     ensures { λ b. ⌜ b ≡ hasRoom edition r ⌝ }
 {
     !(edition == 1) | (r.dx == r.dy) & (r.dx == r.dz)
+}
+
+// The record as one of the edition.
+fn in_edition(edition: u8, r: Record) -> Record
+    ensures { λ q. ⌜ q ≡ inEdition edition r ⌝ }
+{
+    let mut q = r;
+    q.edition = edition;
+    q
 }
 
 // The 116 or 128 bytes of an edition's record, from `at` on.
@@ -180,7 +187,7 @@ pub fn write_record(s: &mut [u8], at: usize, edition: u8, r: Record) -> Wrote
     let size = record_size(edition) as usize;
     let fourteen = first(left_from(s.len(), at) < size, 14, 0);
     let ten = first(!is_edition(edition), 10, fourteen);
-    let number = refusal_with(has_room(edition, r), r, ten);
+    let number = refusal_with(has_room(edition, r), in_edition(edition, r), ten);
     if number != 0 {
         return Wrote::Refused(number);
     }

@@ -1,10 +1,10 @@
-// A record of either edition, read and written at a place.
+// A record of any edition, read and written at a place.
 ghost use mathlib.Core.Path.{_≡_};
 ghost use mathlib.Core.Bool.{true, false};
 ghost use Prim.Native.Nat.{_+_, _*_, _≤_, _<_};
 ghost use lib.ListN.{length};
 ghost use Rattle.queries.specs.Coordinates.{pointsPlace};
-ghost use Rattle.rules.specs.QueryFile.{coordinatesAt, coordinateBytes, recordSize, recordBy, recordAt, bytesBy, recordBytes, put};
+ghost use Rattle.rules.specs.QueryFile.{coordinatesAt, coordinateBytes, isWide, recordSize, recordBy, recordAt, bytesBy, recordBytes, put};
 use little::read_i32;
 use little::read_u32;
 use little::write_i32;
@@ -12,11 +12,18 @@ use little::write_u32;
 use little::write4;
 use rules::Record;
 
+// Whether an edition's record has a separation an axis.
+pub fn is_wide(edition: u8) -> bool
+    ensures { λ b. ⌜ b ≡ isWide edition ⌝ }
+{
+    (edition == 2) | (edition == 3)
+}
+
 // The bytes that an edition's record takes.
 pub fn record_size(edition: u8) -> u8
     ensures { λ r. ⌜ r ≡ recordSize edition ⌝ }
 {
-    if edition == 2 { 128 } else { 116 }
+    if is_wide(edition) { 128 } else { 116 }
 }
 
 // Where record n of a file stands, behind the first.
@@ -56,13 +63,13 @@ pub fn points_place(edition: u8, at: usize) -> usize
     requires { ⌜ at + 32 < 18446744073709551616 ⌝ }
     ensures { λ r. ⌜ r ≡ pointsPlace edition at ⌝ }
 {
-    if edition == 2 { at + 32 } else { at + 20 }
+    if is_wide(edition) { at + 32 } else { at + 20 }
 }
 
 // The record of edition 1, which has one separation for all axes.
-fn decode_narrow(s: &[u8], at: usize, points: [i32; 24]) -> Record
+fn decode_narrow(s: &[u8], at: usize, edition: u8, points: [i32; 24]) -> Record
     requires { ⌜ (at + 116 ≤ length (now s)) × (points ≡ coordinatesAt (now s) (at + 20) 24) ⌝ }
-    ensures { λ r. ⌜ r ≡ recordBy false (now (s .entry)) at ⌝ }
+    ensures { λ r. ⌜ r ≡ recordBy false edition (now (s .entry)) at ⌝ }
 {
     Record {
         kind: s[at],
@@ -76,14 +83,15 @@ fn decode_narrow(s: &[u8], at: usize, points: [i32; 24]) -> Record
         tolerance: read_u32(s, at + 12),
         budget: read_u32(s, at + 16),
         spare: 0,
+        edition,
         points,
     }
 }
 
-// The record of edition 2.
-fn decode_wide(s: &[u8], at: usize, points: [i32; 24]) -> Record
+// The record of edition 2 or 3.
+fn decode_wide(s: &[u8], at: usize, edition: u8, points: [i32; 24]) -> Record
     requires { ⌜ (at + 128 ≤ length (now s)) × (points ≡ coordinatesAt (now s) (at + 32) 24) ⌝ }
-    ensures { λ r. ⌜ r ≡ recordBy true (now (s .entry)) at ⌝ }
+    ensures { λ r. ⌜ r ≡ recordBy true edition (now (s .entry)) at ⌝ }
 {
     Record {
         kind: s[at],
@@ -97,6 +105,7 @@ fn decode_wide(s: &[u8], at: usize, points: [i32; 24]) -> Record
         tolerance: read_u32(s, at + 20),
         budget: read_u32(s, at + 24),
         spare: read_u32(s, at + 28),
+        edition,
         points,
     }
 }
@@ -107,10 +116,10 @@ pub fn decode(s: &[u8], at: usize, edition: u8) -> Record
     ensures { λ r. ⌜ r ≡ recordAt edition (now (s .entry)) at ⌝ }
 {
     let points = read_points(s, points_place(edition, at));
-    if edition == 2 {
-        decode_wide(s, at, points)
+    if is_wide(edition) {
+        decode_wide(s, at, edition, points)
     } else {
-        decode_narrow(s, at, points)
+        decode_narrow(s, at, edition, points)
     }
 }
 
@@ -147,7 +156,7 @@ pub fn encode(s: &mut [u8], at: usize, edition: u8, r: Record)
     requires { ⌜ at + recordSize edition ≤ length (now s) ⌝ }
     ensures { λ _. ⌜ now (s .exit) ≡ put (now (s .entry)) at (recordBytes edition r) ⌝ }
 {
-    if edition == 2 {
+    if is_wide(edition) {
         encode_wide(s, at, r);
     } else {
         encode_narrow(s, at, r);

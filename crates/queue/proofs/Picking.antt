@@ -37,7 +37,7 @@ module _ (q : Query) (k : Depths) (p : Parameter) (high : Bool) (queue : List �
   box = halfOf p high (boxOf (getD queue i 0))
 
   -- it is read back from its word
-  pub half-box : (word : ℕ) → Shallow k → Splits k p (getD queue i 0) → word ≡ stored box → boxOf word ≡ box
+  pub half-box : (word : ℕ) → Shallow 20 k → Splits k p (getD queue i 0) → word ≡ stored box → boxOf word ≡ box
   half-box word shallow x e = rw e (unpack-pack box (fits-grid k box shallow (x .halves high)))
 
   pub half-there : (word : ℕ) (stays : Bool) → Looks k p queue n i → (i ≡ n → ⊥) → word ≡ stored box → stays ≡ inside q k (boxOf word)
@@ -81,7 +81,7 @@ first-is x y true true = go (leb x y) refl
     go true e = not-after (leb-true x y e)
     go false e = after (leb-false x y e)
 
-module _ (q : Query) (k : Depths) (p : Parameter) (ws : List ℕ) (n : ℕ) (long : length ws ≡ n) (shallow : Shallow k) (splits : All (Splits k p) ws) where
+module _ (q : Query) (k : Depths) (p : Parameter) (ws : List ℕ) (n : ℕ) (long : length ws ≡ n) (shallow : Shallow 20 k) (splits : All (Splits k p) ws) where
   grid : (high : Bool) (i : ℕ) → i < n → InGrid k (halfAt p high ws i)
   grid high i h = all-at (Splits k p) ws i splits (omega arith) .halves high
 

@@ -13,7 +13,7 @@ use Rattle.kernel.specs.Ranges.{Shallow, InGrid}
 use Rattle.boxes.specs.Boxes.{boxOf, halfOf, Fits}
 use Rattle.queue.specs.Level.{OfLevel, Splits}
 
-pub fits-grid : (k : Depths) (b : Box) → Shallow k → InGrid k b → Fits b
+pub fits-grid : (k : Depths) (b : Box) → Shallow 20 k → InGrid k b → Fits b
 fits-grid k b s g = record {
   t = lt-of-lt-of-le (g .t) (pow-mono (s .t));
   u = lt-of-lt-of-le (g .u) (pow-mono (s .u));
@@ -24,7 +24,7 @@ double : (k : ℕ) → 2 ^ (k + 1) ≡ 2 * 2 ^ k
 double k = rw (add-one, pow-suc) (omega arith)
 
 -- a word of a box of the level
-pub stored-of-level : (k : Depths) (b : Box) (w : ℕ) → Shallow k → InGrid k b → w ≡ stored b → boxOf w ≡ b → OfLevel k w
+pub stored-of-level : (k : Depths) (b : Box) (w : ℕ) → Shallow 20 k → InGrid k b → w ≡ stored b → boxOf w ≡ b → OfLevel k w
 stored-of-level k b w s g e f = let h = fits-grid k b s g in record { grid = rw f g; fits = omega (arith, e, h .t, h .u, h .v) }
 
 -- one bit more

@@ -33,7 +33,7 @@ abbrev pub halfAt : Parameter → Bool → List ℕ → ℕ → Box
 halfAt p high words i = halfOf p high (boxOf (getD words i 0))
 
 pub record Looks (k : Depths) (split : Parameter) (queue : List ℕ) (n i : ℕ) : Type 0 where
-  pub shallow : Shallow k
+  pub shallow : Shallow 20 k
   pub fits : n ≤ length queue
   pub i-le : i ≤ n
   pub splits : All (Splits k split) (take n queue)
@@ -62,7 +62,7 @@ abbrev pub isLowFirst : Half → Half → Bool
 isLowFirst low high = not (low .stays) || (high .stays && leb (low .word) (high .word))
 
 pub record Takes (q : Query) (k : Depths) (split : Parameter) (queue : List ℕ) (n : ℕ) (low high : Half) : Type 0 where
-  pub shallow : Shallow k
+  pub shallow : Shallow 20 k
   pub fits : n ≤ length queue
   pub splits : All (Splits k split) (take n queue)
   pub low-is : HalfIs q k (halfAt split false (take n queue)) n low
@@ -80,7 +80,7 @@ pub record TakenIs (q : Query) (k : Depths) (split : Parameter) (words : List �
 -- ---- the next level
 
 pub record Grows (p : Pair) (k : Depths) (split : Parameter) (queue : List ℕ) (n : ℕ) : Type 0 where
-  pub shallow : Shallow k
+  pub shallow : Shallow 20 k
   pub fits : n ≤ p .room
   pub twice : p .room + p .room ≤ length queue
   pub splits : All (Splits k split) (take n queue)

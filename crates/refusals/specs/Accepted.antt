@@ -13,7 +13,7 @@ use lib.IntN.{pos, natAbs}
 use lib.ListN.{getD, drop}
 use lib.Dec.{leb, eqb}
 use Rattle.rules.specs.declared.Record.{Record}
-use Rattle.rules.specs.Numbers.{between, isCoordinate, isSeparation, isTolerance, isBudget, isQueue}
+use Rattle.rules.specs.Numbers.{between, limitsBy, limitsOf, isCoordinate, isSeparation, isTolerance, isBudget, isQueue}
 use Rattle.rules.specs.Refusals.{Case, first, every, areFlags, areSeparations, casesWith, recordRefusal, searchRefusal}
 use Rattle.refusals.specs.Cases.{not-due}
 use Rattle.refusals.specs.Every.{every-at}
@@ -23,12 +23,12 @@ pub record Accepted (r : Record) : Type 0 where
   pub flags : r .flags ≤ 1
   pub byte2 : r .byte2 ≡ 0
   pub byte3 : r .byte3 ≡ 0
-  pub coordinate : (i : ℕ) → natAbs (getD (r .points) i (pos 0)) ≤ 1048576
+  pub coordinate : (i : ℕ) → natAbs (getD (r .points) i (pos 0)) ≤ limitsOf (r .edition) .coordinate
   pub spare : r .spare ≡ 0
   pub dx : r .dx ≤ 65536
   pub dy : r .dy ≤ 65536
   pub dz : r .dz ≤ 65536
-  pub tolerance-least : 16 ≤ r .tolerance
+  pub tolerance-least : limitsOf (r .edition) .tolerance ≤ r .tolerance
   pub tolerance-most : r .tolerance ≤ 1048576
   pub budget-least : 1 ≤ r .budget
   pub budget-most : r .budget ≤ 1000000
@@ -47,6 +47,10 @@ in-range low high n e =
     let h = and-eq-true-iff (leb low n) (leb n high) .0 e in
     (leb-true low n (h .0), leb-true n high (h .1))
 
+pub zero-in : (longer : Bool) → isCoordinate (limitsBy longer) (pos 0) ≡ true
+zero-in true = refl
+zero-in false = refl
+
 -- a row that is due where `ok` fails
 peel : (n : ℕ) (ok : Bool) (cs : List Case) → first (record { number = suc n; due = not ok } ∷ cs) ≡ 0 → (ok ≡ true) × (first cs ≡ 0)
 peel n ok cs e = let h = not-due n (not ok) cs e in (not-false ok (h .0), h .1)
@@ -56,9 +60,9 @@ accepted-with room r more e =
     let cs = casesWith room r ++ more in
     let one = peel 0 (eqb (r .kind) 1 || eqb (r .kind) 2) (drop 1 cs) e in
     let two = peel 1 (areFlags r) (drop 2 cs) (one .1) in
-    let three = peel 2 (every isCoordinate (r .points)) (drop 3 cs) (two .1) in
+    let three = peel 2 (every (isCoordinate (limitsOf (r .edition))) (r .points)) (drop 3 cs) (two .1) in
     let four = peel 3 (room && areSeparations r) (drop 4 cs) (three .1) in
-    let five = peel 4 (isTolerance (r .tolerance)) (drop 5 cs) (four .1) in
+    let five = peel 4 (isTolerance (limitsOf (r .edition)) (r .tolerance)) (drop 5 cs) (four .1) in
     let six = peel 5 (isBudget (r .budget)) more (five .1) in
     let spare = and-eq-true-iff (leb (r .flags) 1 && eqb (r .byte2) 0 && eqb (r .byte3) 0) (eqb (r .spare) 0) .0 (two .0) in
     let flags = and-eq-true-iff (leb (r .flags) 1 && eqb (r .byte2) 0) (eqb (r .byte3) 0) .0 (spare .0) in
@@ -71,13 +75,13 @@ accepted-with room r more e =
         flags = leb-true (r .flags) 1 (flags2 .0);
         byte2 = eqb-true (r .byte2) 0 (flags2 .1);
         byte3 = eqb-true (r .byte3) 0 (flags .1);
-        coordinate = λ i. leb-true _ 1048576 (every-at isCoordinate (r .points) (three .0) refl i);
+        coordinate = λ i. leb-true _ (limitsOf (r .edition) .coordinate) (every-at (isCoordinate (limitsOf (r .edition))) (r .points) (three .0) (zero-in (eqb (r .edition) 3)) i);
         spare = eqb-true (r .spare) 0 (spare .1);
         dx = in-range 0 65536 (r .dx) (y .0) .1;
         dy = in-range 0 65536 (r .dy) (y .1) .1;
         dz = in-range 0 65536 (r .dz) (z .1) .1;
-        tolerance-least = in-range 16 1048576 (r .tolerance) (five .0) .0;
-        tolerance-most = in-range 16 1048576 (r .tolerance) (five .0) .1;
+        tolerance-least = in-range (limitsOf (r .edition) .tolerance) 1048576 (r .tolerance) (five .0) .0;
+        tolerance-most = in-range (limitsOf (r .edition) .tolerance) 1048576 (r .tolerance) (five .0) .1;
         budget-least = in-range 1 1000000 (r .budget) (six .0) .0;
         budget-most = in-range 1 1000000 (r .budget) (six .0) .1;
       },

@@ -2,7 +2,9 @@
 ghost use mathlib.Core.Path.{_≡_};
 ghost use mathlib.Core.Bool.{_||_, cond};
 ghost use lib.Dec.{eqb};
-ghost use Rattle.rules.specs.Numbers.{between, isCoordinate, isQueue};
+ghost use lib.IntN.{pos};
+ghost use Rattle.rules.specs.Numbers.{between, limitsOf, isCoordinate, isQueue};
+ghost use Rattle.rules.specs.QueryFile.{isEdition};
 ghost use Rattle.rules.specs.Refusals.{every, areFlags, areSeparations, casesWith, recordRefusal, searchRefusal};
 ghost use Rattle.refusals.specs.Cases.{firstOr};
 use rules::Record;
@@ -32,20 +34,46 @@ fn are_separations(r: Record) -> bool
     is_between(0, 65536, r.dx) & is_between(0, 65536, r.dy) & is_between(0, 65536, r.dz)
 }
 
-// Nothing is negated here: the least i32 has no negative.
-pub fn is_coordinate(c: i32) -> bool
-    ensures { λ b. ⌜ b ≡ isCoordinate c ⌝ }
+pub fn is_edition(edition: u8) -> bool
+    ensures { λ b. ⌜ b ≡ isEdition edition ⌝ }
 {
-    (-1048576 <= c) & (c <= 1048576)
+    (edition == 1) | (edition == 2) | (edition == 3)
 }
 
-pub fn are_coordinates(s: &[i32]) -> bool
-    ensures { λ b. ⌜ b ≡ every isCoordinate (now (s .entry)) ⌝ }
+// An edition's limits: of coordinates, of depths, and the least tolerance.
+fn coordinate_limit(edition: u8) -> i32
+    ensures { λ n. ⌜ n ≡ pos (limitsOf edition .coordinate) ⌝ }
+{
+    if edition == 3 { 2097152 } else { 1048576 }
+}
+
+pub fn depth_limit(edition: u8) -> u64
+    ensures { λ n. ⌜ n ≡ limitsOf edition .deepest ⌝ }
+{
+    if edition == 3 { 19 } else { 20 }
+}
+
+fn least_tolerance(edition: u8) -> u32
+    ensures { λ n. ⌜ n ≡ limitsOf edition .tolerance ⌝ }
+{
+    if edition == 3 { 64 } else { 16 }
+}
+
+// The coordinate is not negated: the least i32 has no negative.
+pub fn is_coordinate(edition: u8, c: i32) -> bool
+    ensures { λ b. ⌜ b ≡ isCoordinate (limitsOf edition) c ⌝ }
+{
+    let limit = coordinate_limit(edition);
+    (-limit <= c) & (c <= limit)
+}
+
+pub fn are_coordinates(edition: u8, s: &[i32]) -> bool
+    ensures { λ b. ⌜ b ≡ every (isCoordinate (limitsOf edition)) (now (s .entry)) ⌝ }
 {
     let mut all = true;
     let mut i = 0;
     while i < s.len() {
-        all = all & is_coordinate(s[i]);
+        all = all & is_coordinate(edition, s[i]);
         i += 1;
     }
     all
@@ -67,11 +95,12 @@ pub fn first(due: bool, number: u32, rest: u32) -> u32
 // The first of 1 to 6 that is due, else `rest`: from the last row to the first. `right`: every coordinate is one, which who reads them has tested. 4 also
 // where there is no room for the separations.
 fn refusal_by(room: bool, r: Record, right: bool, rest: u32) -> u32
-    requires { ⌜ right ≡ every isCoordinate (r .points) ⌝ }
+    requires { ⌜ right ≡ every (isCoordinate (limitsOf (r .edition))) (r .points) ⌝ }
     ensures { λ n. ⌜ n ≡ firstOr (casesWith room r) rest ⌝ }
 {
     let six = first(!is_between(1, 1000000, r.budget), 6, rest);
-    let five = first(!is_between(16, 1048576, r.tolerance), 5, six);
+    let least = least_tolerance(r.edition);
+    let five = first(!is_between(least, 1048576, r.tolerance), 5, six);
     let four = first(!(room & are_separations(r)), 4, five);
     let three = first(!right, 3, four);
     let two = first(!are_flags(r), 2, three);
@@ -82,7 +111,7 @@ pub fn refusal_with(room: bool, r: Record, rest: u32) -> u32
     ensures { λ n. ⌜ n ≡ firstOr (casesWith room r) rest ⌝ }
 {
     let points = r.points;
-    refusal_by(room, r, are_coordinates(&points), rest)
+    refusal_by(room, r, are_coordinates(r.edition, &points), rest)
 }
 
 // What a record is refused for by itself, 1 to 6; 0: nothing.
@@ -94,7 +123,7 @@ pub fn record_refusal(r: Record) -> u32
 
 // What a search of it with so many queue words is refused for, 1 to 7; 0: nothing. Its coordinates are tested already.
 pub fn search_refusal_by(r: Record, right: bool, words: usize) -> u32
-    requires { ⌜ right ≡ every isCoordinate (r .points) ⌝ }
+    requires { ⌜ right ≡ every (isCoordinate (limitsOf (r .edition))) (r .points) ⌝ }
     ensures { λ n. ⌜ n ≡ searchRefusal r words ⌝ }
 {
     refusal_by(true, r, right, first(!is_queue(words), 7, 0))
@@ -104,5 +133,5 @@ pub fn search_refusal(r: Record, words: usize) -> u32
     ensures { λ n. ⌜ n ≡ searchRefusal r words ⌝ }
 {
     let points = r.points;
-    search_refusal_by(r, are_coordinates(&points), words)
+    search_refusal_by(r, are_coordinates(r.edition, &points), words)
 }

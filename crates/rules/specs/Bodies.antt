@@ -108,6 +108,7 @@ askOf w a b i j k =
       tolerance = w .tolerance;
       budget = w .budget;
       spare = 0;
+      edition = w .edition;
       points = fourOf (a .start) (b .start) i j k (fourOf (a .end) (b .end) i j k []);
     }
 

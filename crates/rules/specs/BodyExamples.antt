@@ -26,7 +26,7 @@ moves n start end = record { count = n; start = start; end = end }
 
 -- separations, tolerance, and a budget of 1,000
 abbrev pub terms : ℕ → ℕ → ℕ → ℕ → Terms
-terms dx dy dz tolerance = record { dx = dx; dy = dy; dz = dz; tolerance = tolerance; budget = 1000 }
+terms dx dy dz tolerance = record { dx = dx; dy = dy; dz = dz; tolerance = tolerance; budget = 1000; edition = 2 }
 
 abbrev pub touching : ℕ → Terms
 touching = terms 0 0 0

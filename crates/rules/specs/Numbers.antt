@@ -1,23 +1,36 @@
 -- Document 01, "Numbers". One unit is 1/8 mm.
 use Prim.Native.Nat.{ℕ, _/_}
-use mathlib.Core.Bool.{Bool, _&&_}
+use mathlib.Core.Bool.{Bool, true, false, _&&_}
 use lib.IntN.{ℤ, natAbs}
-use lib.Dec.{leb}
+use lib.Dec.{leb, eqb}
 
 abbrev pub between : ℕ → ℕ → ℕ → Bool
 between low high n = leb low n && leb n high
 
--- "Coordinate: -1,048,576 to 1,048,576."
-abbrev pub isCoordinate : ℤ → Bool
-isCoordinate c = leb (natAbs c) 1_048_576
+-- what differs between editions: the coordinate limit, the depth limit and the least tolerance
+pub record Limits : Type 0 where
+  pub coordinate : ℕ
+  pub deepest : ℕ
+  pub tolerance : ℕ
+
+-- "Coordinate: -1,048,576 to 1,048,576." "Tolerance: 16 to 1,048,576." "Depth of each parameter: 0 to 20."
+-- "A new terminal needs coordinates to 2,097,152. Edition 3 has .. depths to 19, and tolerance from 64" (document 02, R-11)
+abbrev pub limitsBy : Bool → Limits
+limitsBy false = record { coordinate = 1_048_576; deepest = 20; tolerance = 16 }
+limitsBy true = record { coordinate = 2_097_152; deepest = 19; tolerance = 64 }
+
+abbrev pub limitsOf : ℕ → Limits
+limitsOf edition = limitsBy (eqb edition 3)
+
+abbrev pub isCoordinate : Limits → ℤ → Bool
+isCoordinate l c = leb (natAbs c) (l .coordinate)
 
 -- "Separation d: 0 to 65,536."
 abbrev pub isSeparation : ℕ → Bool
 isSeparation d = between 0 65_536 d
 
--- "Tolerance: 16 to 1,048,576."
-abbrev pub isTolerance : ℕ → Bool
-isTolerance n = between 16 1_048_576 n
+abbrev pub isTolerance : Limits → ℕ → Bool
+isTolerance l n = between (l .tolerance) 1_048_576 n
 
 -- "Budget: 1 to 1,000,000 boxes."
 abbrev pub isBudget : ℕ → Bool
@@ -31,10 +44,6 @@ isQueue words = between 2 1_048_576 words
 abbrev pub half : ℕ → ℕ
 half words = words / 2
 
--- "Depth of each parameter: 0 to 20."
-abbrev pub deepest : ℕ
-deepest = 20
-
--- "Answered t, u, v count 1/1,048,576 parts."
+-- "Answered t, u, v count 1/1,048,576 parts." "Times are still written in 1/1,048,576 parts and are then even" (document 02, R-11)
 abbrev pub parts : ℕ
 parts = 1_048_576

@@ -41,13 +41,13 @@ stands s at (b ∷ bs) = eqb (getD s at 0) b && stands s (at + 1) bs
 
 -- ---- editions
 
--- "10 now for editions other than 1 and 2" (document 02, R-4)
+-- "10 now for editions other than 1, 2, 3" (document 02, R-11)
 abbrev pub isEdition : ℕ → Bool
-isEdition edition = eqb edition 1 || eqb edition 2
+isEdition edition = eqb edition 1 || eqb edition 2 || eqb edition 3
 
--- whether an edition's record is wide, with a separation an axis
+-- whether an edition's record is wide, with a separation an axis: "Edition 3 has edition 2's record" (document 02, R-11)
 abbrev pub isWide : ℕ → Bool
-isWide edition = eqb edition 2
+isWide edition = eqb edition 2 || eqb edition 3
 
 -- "records of 116 bytes"; "records of 128 bytes" (document 02, R-4)
 abbrev pub sizeBy : Bool → ℕ
@@ -69,8 +69,8 @@ coordinateBytes (c ∷ cs) = wordBytes (bits c) ++ coordinateBytes cs
 
 -- "kind (byte 0), flags (1), zero (2, 3), id (4), separation (8), tolerance (12), budget (16). From 20: four points at the start, four at the end"; wide:
 -- "bytes 0 to 7 as before, three separations at 8, tolerance at 20, budget at 24, a zero word at 28, points at 32". "An edition 1 record means three equal separations."
-unfoldable pub recordBy : Bool → List ℕ → ℕ → Record
-recordBy wide s at = record {
+unfoldable pub recordBy : Bool → ℕ → List ℕ → ℕ → Record
+recordBy wide edition s at = record {
   kind = getD s at 0;
   flags = getD s (at + 1) 0;
   byte2 = getD s (at + 2) 0;
@@ -82,11 +82,12 @@ recordBy wide s at = record {
   tolerance = word s (at + cond wide 20 12);
   budget = word s (at + cond wide 24 16);
   spare = cond wide (word s (at + 28)) 0;
+  edition = edition;
   points = coordinatesAt s (at + cond wide 32 20) 24;
 }
 
 abbrev pub recordAt : ℕ → List ℕ → ℕ → Record
-recordAt edition = recordBy (isWide edition)
+recordAt edition = recordBy (isWide edition) edition
 
 -- what stands between bytes 0 to 7 and the points
 abbrev pub termBytes : Bool → Record → List ℕ
@@ -137,9 +138,12 @@ backPointer s = word s (trailerPlace s + 8)
 abbrev pub recordCount : List ℕ → ℕ
 recordCount s = word s (trailerPlace s + 12)
 
--- the edition that a query file is read by: 2 where its trailer says so, else 1 (and 10 is given where it says neither)
+-- the edition that a query file is read by: 2 or 3 where its trailer says so, else 1 (and 10 is given where it says none of the three)
+abbrev pub editionFor : ℕ → ℕ
+editionFor named = cond (isWide named) named 1
+
 abbrev pub editionOf : List ℕ → ℕ
-editionOf s = cond (isWide (getD s (trailerPlace s + 4) 0)) 2 1
+editionOf s = editionFor (getD s (trailerPlace s + 4) 0)
 
 abbrev pub fileForm : List ℕ → Form
 fileForm s = queryForm (editionOf s)
@@ -189,6 +193,7 @@ noRecord = record {
   tolerance = 0;
   budget = 0;
   spare = 0;
+  edition = 1;
   points = replicate 24 (pos 0);
 }
 
@@ -218,9 +223,27 @@ space s at n = record { number = 14; due = ltb (length s - at) n }
 abbrev pub hasRoom : ℕ → Record → Bool
 hasRoom edition r = not (eqb edition 1) || eqb (r .dx) (r .dy) && eqb (r .dx) (r .dz)
 
+-- a record as one of an edition: a writer is told the edition, whose ranges then are the record's
+abbrev pub inEdition : ℕ → Record → Record
+inEdition edition r = record {
+  kind = r .kind;
+  flags = r .flags;
+  byte2 = r .byte2;
+  byte3 = r .byte3;
+  id = r .id;
+  dx = r .dx;
+  dy = r .dy;
+  dz = r .dz;
+  tolerance = r .tolerance;
+  budget = r .budget;
+  spare = r .spare;
+  edition = edition;
+  points = r .points;
+}
+
 -- "Writing a record: 1 to 6, then 14.", with 10 between them: the edition's size must be known before 14
 unfoldable pub writeRefusal : ℕ → List ℕ → ℕ → Record → ℕ
-writeRefusal edition s at r = first (casesWith (hasRoom edition r) r ++ (noEdition edition ∷ space s at (recordSize edition) ∷ []))
+writeRefusal edition s at r = first (casesWith (hasRoom edition r) (inEdition edition r) ++ (noEdition edition ∷ space s at (recordSize edition) ∷ []))
 
 -- "Writing a trailer behind records: 11, then 12 (fewer bytes before it than 116 times the count), then 14." The bytes before it are the
 -- place itself, also where that lies past the end

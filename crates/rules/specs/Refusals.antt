@@ -5,7 +5,7 @@ use mathlib.Core.List.{List, [], _∷_, _++_}
 use lib.IntN.{ℤ}
 use lib.Dec.{leb, eqb}
 use Rattle.rules.specs.declared.Record.{Record}
-use Rattle.rules.specs.Numbers.{isCoordinate, isSeparation, isTolerance, isBudget, isQueue}
+use Rattle.rules.specs.Numbers.{limitsOf, isCoordinate, isSeparation, isTolerance, isBudget, isQueue}
 
 -- a row of the table: its number, and whether it is given
 pub record Case : Type 0 where
@@ -40,9 +40,9 @@ abbrev pub casesWith : Bool → Record → List Case
 casesWith room r =
     record { number = 1; due = not (eqb (r .kind) 1 || eqb (r .kind) 2) }
     ∷ record { number = 2; due = not (areFlags r) }
-    ∷ record { number = 3; due = not (every isCoordinate (r .points)) }
+    ∷ record { number = 3; due = not (every (isCoordinate (limitsOf (r .edition))) (r .points)) }
     ∷ record { number = 4; due = not (room && areSeparations r) }
-    ∷ record { number = 5; due = not (isTolerance (r .tolerance)) }
+    ∷ record { number = 5; due = not (isTolerance (limitsOf (r .edition)) (r .tolerance)) }
     ∷ record { number = 6; due = not (isBudget (r .budget)) }
     ∷ []
 

@@ -13,7 +13,7 @@ use Rattle.rules.specs.declared.Parameter.the-variants.{InT, InU, InV}
 use Rattle.rules.specs.declared.Corner.{Corner}
 use Rattle.rules.specs.declared.Answer.{Answer}
 use Rattle.rules.specs.declared.Answer.the-variants.{Met, Clear, Spent, Room, Floor, Refused}
-use Rattle.rules.specs.Numbers.{parts, half, deepest}
+use Rattle.rules.specs.Numbers.{limitsOf, parts, half}
 use Rattle.rules.specs.declared.Axis.{Axis}
 use Rattle.rules.specs.declared.Axis.the-variants.{X, Y, Z}
 use Rattle.rules.specs.Gap.{gapOn, sided, isVertexFace, separationOn}
@@ -41,7 +41,7 @@ query r words =
       tolerance = r .tolerance;
       budget = r .budget;
       room = half words;
-      deepest = deepest;
+      deepest = limitsOf (r .edition) .deepest;
     }
 
 -- ---- boxes
@@ -140,7 +140,7 @@ abbrev pub keep : Box → Checked → Checked
 keep box (answered a) = answered a
 keep box (through n c rest) = through n c (box ∷ rest)
 
--- "At that moment: 1. answer MET; 2. otherwise all three depths 20: answer FLOOR", by whether the first survivor is near and the depths are full;
+-- "At that moment: 1. answer MET; 2. otherwise all three depths 20: answer FLOOR" (19 in edition 3), by whether the first survivor is near and the depths are full;
 -- c is its corner, n the count; `on` goes on with the level
 unfoldable pub firstSurvivor : Bool → Bool → Corner → ℕ → (Corner → Checked) → Checked
 firstSurvivor true full c n on = answered (withCount Met c n)

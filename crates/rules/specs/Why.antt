@@ -91,13 +91,13 @@ abbrev pub nameOr : Miss → Stop → Ruling → Ruling
 nameOr (On axis side) s rest = Discarded (reasonOf s axis side)
 nameOr Nowhere s rest = rest
 
--- at most so many levels more; 60 are enough, and `Refused 0` is never answered
+-- at most so many levels more; three times the depth limit are enough, and `Refused 0` is never answered
 unfoldable pub descend : ℕ → Query → Three → Stop → Ruling
 descend zero q at s = nameOr (missed q (s .depths) (s .index)) s (Refused 0)
 descend (suc n) q at s = nameOr (missed q (s .depths) (s .index)) s (descend n q at (halfOf q at s))
 
 abbrev pub fromWhole : Record → ℕ → Three → Ruling
-fromWhole r words at = descend 60 (query r words) at wholeDomain
+fromWhole r words at = descend (3 * query r words .deepest) (query r words) at wholeDomain
 
 -- ---- the refusals
 

@@ -15,7 +15,7 @@ use Rattle.rules.specs.Gap.{moving, vertexFace, edgeEdge, gapOn, negateF
 use Rattle.rules.specs.Refusals.{first, every, searchRefusal}
 use Rattle.rules.specs.Search.{search, run, levels, afterLevel, ifRoom, halves, merge, takeIn, notAfter, those, inside, split, winner, spread, check, oneBox, near, firstSurvivor, corner, excess, width, survives, least, greatest, overCorners, unless}
 use Rattle.rules.specs.Why.{inDomain, isBefore, goesUp, holding, missOn, missed, descend, whyRefusal, unlessWhy, whySearch, whyQueueAfter, toldWhy}
-use Rattle.rules.specs.Berth.{asked, apartly, minus, point, T, P-T, still, past-T, edges, below-flag}
+use Rattle.rules.specs.Berth.{asked, apartly, minus, point, T, P-T, still, past-T, edges, below-flag, ranged, far-falling}
 
 pub record Row : Type 0 where
   pub query : Record
@@ -86,6 +86,11 @@ rows =
     ∷ row edge-case 4096 393215 1048576 0 (named 5 2 2 1 1 3 0 X Above)
     ∷ row (asked 1 0 0 999 1000 below-flag) 4096 0 0 0 (named 0 0 0 0 0 0 0 Y Above)
     ∷ row (asked 1 1 0 999 1000 below-flag) 4096 0 0 0 (Refused 24)
+    ∷ row (ranged 3 999 P-T) 4096 262143 524288 524288 (named 2 2 0 0 0 0 0 Z Above)
+    ∷ row (ranged 3 1048576 (far-falling 2097152)) 4096 0 0 0 (named 4 2 1 1 0 0 0 Z Above)
+    ∷ row (ranged 3 1048576 (far-falling 2097152)) 4096 262143 0 524288 (named 4 2 1 1 0 0 1 Z Above)
+    ∷ row (ranged 3 1048576 (far-falling 2097152)) 4096 262144 0 0 (Refused 24)
+    ∷ row (ranged 2 1048576 (far-falling 2097152)) 4096 0 0 0 (Refused 3)
     ∷ []
 
 pub why-rows : map (λ (r : Row). whySearch (r .query) (r .words) (r .at)) rows ≡ map (λ (r : Row). r .answer) rows

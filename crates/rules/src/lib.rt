@@ -1,7 +1,7 @@
 // The values that document 01 speaks of, by value. The rules themselves stand in specs/.
 
 // A query as it is handed to the search or to a writer: every field of the file's record.
-// dx, dy, dz are the separations; `spare` is the word at 28 of edition 2, and 0 in edition 1.
+// `edition` is that of its file, by which its ranges and depths go. dx, dy, dz are the separations; `spare` is the word at 28 of edition 2, and 0 in edition 1.
 // The points are p, v1, v2, v3 or p1, p2, p3, p4 at the start, then the same four at the end; x, y, z of each.
 pub struct Record {
     pub kind: u8,
@@ -16,6 +16,7 @@ pub struct Record {
     pub budget: u32,
     pub spare: u32,
     pub points: [i32; 24],
+    pub edition: u8,
 }
 
 // One number a parameter: a box's indices, or a level's depths.
@@ -114,13 +115,14 @@ pub enum Wrote {
     Refused(u32),
 }
 
-// What two bodies are asked with: one separation triple, tolerance and budget for all queries.
+// What two bodies are asked with: one separation triple, tolerance and budget for all queries, and the edition whose ranges they go by.
 pub struct Terms {
     pub dx: u32,
     pub dy: u32,
     pub dz: u32,
     pub tolerance: u32,
     pub budget: u32,
+    pub edition: u8,
 }
 
 // One of a triangle pair's fifteen queries: its kind and its four points, 0 to 2 the corners 1 to 3 of A, 3 to 5 those of B.

@@ -61,7 +61,7 @@ deeper-total InT k = omega arith
 deeper-total InU k = omega arith
 deeper-total InV k = omega arith
 
-pub deeper-shallow : (p : Parameter) (k : Depths) → (depthIn p k ≡ 20 → ⊥) → Shallow k → Shallow (deeper p k)
+pub deeper-shallow : {d : ℕ} (p : Parameter) (k : Depths) → (depthIn p k ≡ d → ⊥) → Shallow d k → Shallow d (deeper p k)
 deeper-shallow InT k h s = record { t = omega (arith, s .t); u = s .u; v = s .v }
 deeper-shallow InU k h s = record { t = s .t; u = omega (arith, s .u); v = s .v }
 deeper-shallow InV k h s = record { t = s .t; u = s .u; v = omega (arith, s .v) }

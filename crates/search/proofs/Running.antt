@@ -62,7 +62,7 @@ module _ (p : Pair) (queue : List ℕ) (z : Zeroed p queue) where
 
 module _ (p : Pair) (n : ℕ) (queue : List ℕ) (l : Level) (r : Running p n queue l) (q₂ : List ℕ) where
   fuel : 61 - total (l .depths) ≡ suc (60 - total (l .depths))
-  fuel = omega (arith, r .fine .shallow .t, r .fine .shallow .u, r .fine .shallow .v)
+  fuel = omega (arith, r .fine .ranged .deepest, r .fine .shallow .t, r .fine .shallow .u, r .fine .shallow .v)
 
   stepped : (s : Step) → StepIs p l queue q₂ s → goOn (levels (60 - total (l .depths)) (asked p)) q₂ s ≡ run (asked p)
   unfolding levels

@@ -14,7 +14,7 @@ use Rattle.rules.specs.declared.Parameter.{Parameter}
 use Rattle.rules.specs.Search.{Query, Box, Depths, through, withCount, split, deeper, halves, ifRoom, afterLevel}
 use Rattle.kernel.specs.declared.Pair.{Pair}
 use Rattle.kernel.specs.Kernel.{asked}
-use Rattle.kernel.specs.Ranges.{Shallow}
+use Rattle.kernel.specs.Ranges.{Shallow, shallower}
 use Rattle.boxes.specs.Boxes.{boxOf}
 use Rattle.queue.specs.declared.Next.the-variants.{Room, Level as Places}
 use Rattle.queue.specs.All.{all-imp}
@@ -48,12 +48,12 @@ module _ (p : Pair) (l : Level) (old : List ℕ) (x : Splitting p old l) where
   abbrev new : List Box
   new = halves (asked p) depths parameter (boxes old l)
 
-  shallow : Shallow depths
+  shallow : Shallow (p .deepest) depths
   shallow = deeper-shallow parameter (l .depths) (split-deepest (asked p) (l .depths) (x .not-full)) (x .fine .shallow)
 
   pub grows : Grows p depths parameter old (l .size)
   grows = record {
-    shallow = shallow;
+    shallow = shallower (x .fine .ranged .deepest) shallow;
     fits = omega (arith, x .fine .size, x .fine .used);
     twice = x .fine .twice;
     splits = all-imp (OfLevel (l .depths)) (Splits depths parameter) (splits-grid parameter (l .depths)) (take (l .size) old) (x .fine .grid);

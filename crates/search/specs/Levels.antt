@@ -38,7 +38,7 @@ Answers (Refused number) = ⊥
 
 pub record OneBox (p : Pair) (k : Depths) (box : Box) : Type 0 where
   pub ranged : Ranged p
-  pub shallow : Shallow k
+  pub shallow : Shallow (p .deepest) k
   pub grid : InGrid k box
 
 -- the rest of a level's check after a box; `on` goes on with the boxes after it
@@ -73,7 +73,7 @@ pub record BoxIs (q : Query) (k : Depths) (box : Box) (seen : Bool) (c : Corner)
 -- the first words are boxes of the level
 pub record Opens (p : Pair) (k : Depths) (queue : List ℕ) (n : ℕ) : Type 0 where
   pub ranged : Ranged p
-  pub shallow : Shallow k
+  pub shallow : Shallow (p .deepest) k
   pub fits : n ≤ length queue
   pub grid : All (OfLevel k) (take n queue)
 
@@ -88,7 +88,7 @@ pub record Tidy (h used : ℕ) (queue : List ℕ) : Type 0 where
 -- what a level keeps to
 pub record Fine (p : Pair) (queue : List ℕ) (l : Level) : Type 0 where
   pub ranged : Ranged p
-  pub shallow : Shallow (l .depths)
+  pub shallow : Shallow (p .deepest) (l .depths)
   pub size : l .size ≤ l .used
   pub used : l .used ≤ p .room
   pub twice : p .room + p .room ≤ length queue

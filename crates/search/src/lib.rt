@@ -4,7 +4,6 @@ ghost use mathlib.Core.Bool.{_&&_};
 ghost use Prim.Native.Nat.{_+_, _≤_, max};
 ghost use lib.Dec.{eqb};
 ghost use lib.ListN.{length, replicate};
-ghost use Rattle.rules.specs.Numbers.{deepest};
 ghost use Rattle.rules.specs.Answers.{queueAfter};
 ghost use Rattle.rules.specs.Search.{deeper, run, search};
 ghost use Rattle.kernel.specs.Kernel.{asked};
@@ -28,8 +27,6 @@ use rules::Parameter;
 use rules::Record;
 use rules::Three;
 
-const DEEPEST: u64 = 20;
-
 // What checking one box comes to: the end of the search, a lost box, or a survivor and the corner recorded after it.
 pub enum Seen {
     Ends(Answer),
@@ -52,10 +49,10 @@ pub enum Step {
     Goes(Level),
 }
 
-fn is_full(k: Three) -> bool
+fn is_full(deepest: u64, k: Three) -> bool
     ensures { λ r. ⌜ r ≡ (eqb (k .t) deepest && eqb (k .u) deepest && eqb (k .v) deepest) ⌝ }
 {
-    k.t == DEEPEST && k.u == DEEPEST && k.v == DEEPEST
+    k.t == deepest && k.u == deepest && k.v == deepest
 }
 
 // A level's first survivor: MET, or FLOOR, or its corner is recorded.
@@ -73,7 +70,7 @@ fn first_survivor(p: Pair, k: Three, b: Three, count: u32) -> Seen
             count,
         });
     }
-    if is_full(k) {
+    if is_full(p.deepest, k) {
         return Seen::Ends(Answer::Floor {
             t: c.t,
             u: c.u,
@@ -159,7 +156,7 @@ fn check_level(p: Pair, queue: &mut [u64], l: Level) -> Step
 
 // The depths after a split.
 pub fn deepen(split: Parameter, k: Three) -> Three
-    requires { ⌜ Shallow k ⌝ }
+    requires { ⌜ Shallow 20 k ⌝ }
     ensures { λ r. ⌜ r ≡ deeper split k ⌝ }
 {
     match split {

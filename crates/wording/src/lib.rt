@@ -25,7 +25,7 @@ ghost use Rattle.wording.specs.Line.{
   two,
   whyText,
 };
-use gap::cell::PARTS;
+use gap::PARTS;
 use gap::cell::cell_of;
 use rules::Axis;
 use rules::Reason;
@@ -108,10 +108,10 @@ fn write_share(out: &mut [u8], at: usize, from: u64, to: u64) -> usize
 }
 
 fn write_spans(out: &mut [u8], at: usize, k: Three, i: Three) -> usize
-    requires { ⌜ (at + 82 ≤ length (now out)) × (Shallow k × InGrid k i) ⌝ }
+    requires { ⌜ (at + 82 ≤ length (now out)) × (Shallow 20 k × InGrid k i) ⌝ }
     ensures { λ r. ⌜ Wrote 82 (now (out .entry)) at (spans k i) (now (out .exit)) r ⌝ }
 {
-    let w = cell_of(k, i);
+    let w = cell_of(20, k, i);
     let t_end = write_span(out, at, b't', w.t0, w.t1);
     let u_at = write_text(out, t_end, b", ");
     let u_end = write_span(out, u_at, b'u', w.u0, w.u1);
@@ -120,10 +120,10 @@ fn write_spans(out: &mut [u8], at: usize, k: Three, i: Three) -> usize
 }
 
 fn write_shares(out: &mut [u8], at: usize, k: Three, i: Three) -> usize
-    requires { ⌜ (at + 106 ≤ length (now out)) × (Shallow k × InGrid k i) ⌝ }
+    requires { ⌜ (at + 106 ≤ length (now out)) × (Shallow 20 k × InGrid k i) ⌝ }
     ensures { λ r. ⌜ Wrote 106 (now (out .entry)) at (shares k i) (now (out .exit)) r ⌝ }
 {
-    let w = cell_of(k, i);
+    let w = cell_of(20, k, i);
     let t_end = write_share(out, at, w.t0, w.t1);
     let u_at = write_text(out, t_end, b", ");
     let u_end = write_share(out, u_at, w.u0, w.u1);

@@ -1,30 +1,43 @@
--- `bodies::answer_bodies` meets its contract: refused, without room, or walked and told. Assumes nothing.
+-- `bodies::answer_bodies` meets its contract: of no edition, refused, without room, or walked and told. Assumes nothing.
 use mathlib.Core.Path.{sym, ap, _∙_}
 use native.Mathlib.Omega.{arith}
+use borrow.Author.Tests.{not-true, not-false}
 use Rattle.rules.specs.declared.BodyAnswer.{BodyAnswer}
 use Rattle.rules.specs.QueryFile.{put}
 use Rattle.answers.specs.Doing.{refuses, answers}
 use Rattle.bodies.specs.Telling.{bodyTold}
-use Rattle.bodies.proofs.Settling.{tell-refused, tell-short, tell-good}
+use Rattle.bodies.proofs.Settling.{tell-none, tell-refused, tell-short, tell-good}
 use borrow.Author.Needs.{needs}
 use Rattle.bodies.proofs.answer_bodies.Statement.{statement}
 use Rattle.bodies.proofs.answer_bodies.Tie as tie
 
-body-refusal-requires : tie.Need-body-refusal-requires
-body-refusal-requires c κs = search needs
+is-edition-requires : tie.Need-is-edition-requires
+is-edition-requires c κs = search needs
 
 returns : tie.Need-returns
 returns c =
     let a = c .before .before .before .before .args in
-    refuses (c .before .body-refusal .result) _ _ (a .queue .now) (a .out .now)
-    (tell-refused _ _ _ (a .queue .now) (a .out .now) (c .before .body-refusal .result) (c .before .body-refusal .ensures) (c .if1 .taken)) (c .if1 .taken)
+    refuses 10 _ _ (a .queue .now) (a .out .now) (tell-none _ _ _ (a .queue .now) (a .out .now) (sym (c .before .is-edition .ensures) ∙ not-true _ (c .if1 .taken))) (λ z. omega arith)
+
+body-refusal-requires : tie.Need-body-refusal-requires
+body-refusal-requires c κs = search needs
 
 returns-2 : tie.Need-returns-2
 returns-2 c =
+    let e = c .before .before in
+    let a = e .before .before .before .before .args in
+    let is = sym (e .before .is-edition .ensures) ∙ not-false _ (e .if1 .left) in
+    refuses (c .before .body-refusal .result) _ _ (a .queue .now) (a .out .now)
+    (tell-refused _ _ _ (a .queue .now) (a .out .now) is (c .before .body-refusal .result) (c .before .body-refusal .ensures) (c .if2 .taken)) (c .if2 .taken)
+
+returns-3 : tie.Need-returns-3
+returns-3 c =
     let f = c .before in
-    let a = f .before .before .before .before .args in
+    let e = f .before .before in
+    let a = e .before .before .before .before .args in
+    let is = sym (e .before .is-edition .ensures) ∙ not-false _ (e .if1 .left) in
     refuses 14 _ _ (a .queue .now) (a .out .now)
-    (tell-short _ _ _ (a .queue .now) (a .out .now) (sym (omega (arith, f .if1 .left)) ∙ f .before .body-refusal .ensures) (omega (arith, c .if2 .taken))) (λ z. omega arith)
+    (tell-short _ _ _ (a .queue .now) (a .out .now) is (sym (omega (arith, f .if2 .left)) ∙ f .before .body-refusal .ensures) (omega (arith, c .if3 .taken))) (λ z. omega arith)
 
 walk-requires : tie.Need-walk-requires
 walk-requires c κs = search needs
@@ -38,24 +51,28 @@ same-length c = search needs
 same-length-2 : tie.Need-same-length-2
 same-length-2 c = search needs
 
-returns-3 : tie.Need-returns-3
-returns-3 c =
+returns-4 : tie.Need-returns-4
+returns-4 c =
     let p = c .before .before .before .before .before .before .before in
     let f = p .before .before in
-    let a = f .before .before .before .before .args in
+    let e = f .before .before in
+    let a = e .before .before .before .before .args in
+    let is = sym (e .before .is-edition .ensures) ∙ not-false _ (e .if1 .left) in
     let s = c .before .before .before .before .before .before .walk .ensures in
-    answers (tell-good _ _ _ (a .queue .now) (a .out .now) (sym (omega (arith, f .if1 .left)) ∙ f .before .body-refusal .ensures) (omega arith))
+    answers (tell-good _ _ _ (a .queue .now) (a .out .now) is (sym (omega (arith, f .if2 .left)) ∙ f .before .body-refusal .ensures) (omega arith))
     (c .before .before .write-told .ensures ∙ ap (λ (x : BodyAnswer). put (a .out .now) 0 (bodyTold x)) (s .says)) (s .left)
 
 pub answer-bodies-spec : {M : Type 1} → statement M
 answer-bodies-spec =
     tie.close
     (tie.spec
-    body-refusal-requires
+    is-edition-requires
     returns
+    body-refusal-requires
     returns-2
+    returns-3
     walk-requires
     write-told-requires
     same-length
     same-length-2
-    returns-3)
+    returns-4)

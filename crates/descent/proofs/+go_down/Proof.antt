@@ -5,6 +5,7 @@ use native.Mathlib.Omega.{arith}
 use Rattle.rules.specs.declared.Ruling.the-variants.{Discarded}
 use Rattle.rules.specs.Why.{descend}
 use Rattle.kernel.specs.Kernel.{asked}
+use Rattle.kernel.specs.Ranges.{shallower}
 use Rattle.rules.specs.declared.Stop.{Stop}
 use Rattle.descent.specs.Way.{Good}
 use Rattle.descent.proofs.Going.{good-once, good-half, descend-out, descend-end, descend-on}
@@ -41,7 +42,7 @@ go-down-enum-known-axis : (t : ℕ) → go-down-lts.Need-enum-known-axis (callee
 go-down-enum-known-axis t c = search needs
 
 go-down-reason-requires : (t : ℕ) → go-down-lts.Need-reason-requires (callees t) (go-down-at t) go-down.Post
-go-down-reason-requires t c κs = c .before .before .before .before .before .before .pre .1 .shallow
+go-down-reason-requires t c κs = let g = c .before .before .before .before .before .before .pre .1 in shallower (g .ranged .deepest) (g .shallow)
 
 go-down-enum-told : (t : ℕ) → go-down-lts.Need-enum-told (callees t) (go-down-at t) go-down.Post
 go-down-enum-told t c = search needs

@@ -1,6 +1,7 @@
 -- The low end of the upper half is worked out without a loss.
 use borrow.Author.Needs.{needs}
 use native.Mathlib.Omega.{arith}
+use lib.Dec.{lit≤}
 use native.Mathlib.Nat.{le-of-lt}
 use Rattle.gap.specs.Grid.{index-most}
 use Rattle.descent.proofs.Going.{upper-in}
@@ -11,13 +12,13 @@ add-low : tie.Need-add-low
 add-low c = search needs
 
 mul-low : tie.Need-mul-low
-mul-low c = omega (arith, index-most (le-of-lt (c .pre .0)) (c .pre .1))
+mul-low c = omega (arith, index-most (lit≤ tt) (le-of-lt (c .pre .0)) (c .pre .1))
 
 add-low-2 : tie.Need-add-low-2
-add-low-2 c = omega (arith, index-most (le-of-lt (c .pre .0)) (c .pre .1))
+add-low-2 c = omega (arith, index-most (lit≤ tt) (le-of-lt (c .pre .0)) (c .pre .1))
 
 low-requires : tie.Need-low-requires
-low-requires c κs = (omega (arith, c .pre .0), upper-in (c .args .k) (c .args .i) (c .pre .1))
+low-requires c κs = (lit≤ tt, (omega (arith, c .pre .0), upper-in (c .args .k) (c .args .i) (c .pre .1)))
 
 returns : tie.Need-returns
 returns c = rw (c .low .ensures)

@@ -1,6 +1,7 @@
 -- `gap::inside` meets its contract.
 use borrow.Author.Needs.{needs}
 use native.Mathlib.Omega.{arith}
+use lib.Dec.{lit≤}
 use Rattle.rules.specs.Search.{inside}
 use Rattle.gap.specs.Grid.{in-parts-of}
 use Rattle.gap.proofs.inside.Statement.{statement}
@@ -15,7 +16,7 @@ low-requires-2 c κs = search needs
 add-result : tie.Need-add-result
 add-result c =
     let p = c .before .before .before .pre in
-    let w = in-parts-of (p .0) (p .1) in
+    let w = in-parts-of {d = 20} (lit≤ tt) (p .0) (p .1) in
     omega (arith, w .u0, w .v0)
 
 returns : tie.Need-returns

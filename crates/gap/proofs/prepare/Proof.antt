@@ -28,12 +28,15 @@ cast-dz c = let s = c .before .before .before .before .before .before .before .b
 cast-tolerance : tie.Need-cast-tolerance
 cast-tolerance c = let s = c .before .before .before .before .before .before .before .before .before .before in record { fits = omega (arith, accepted-search (s .args .r) (s .args .words) (s .pre) .query .tolerance-most) }
 
+depth-limit-requires : tie.Need-depth-limit-requires
+depth-limit-requires c κs = search needs
+
 returns : tie.Need-returns
 returns c =
-    let k = c .before .before .before .before .before .before in
+    let k = c .before .before .before .before .before .before .before in
     let s = k .before .before .before .before in
-    rw (k .kernel-at .ensures, c .before .before .before .before .before .kernel-at2 .ensures, c .before .before .before .before .kernel-at3 .ensures) (pair-prepared (s .args .r) (s .args .words) (s .pre))
+    rw (k .kernel-at .ensures, c .before .before .before .before .before .before .kernel-at2 .ensures, c .before .before .before .before .before .kernel-at3 .ensures, c .depth-limit .ensures) (pair-prepared (s .args .r) (s .args .words) (s .pre))
 
 pub prepare-spec : {M : Type 1} → statement M
 prepare-spec =
-    tie.close (tie.spec kernel-at-requires kernel-at-requires-2 kernel-at-requires-3 cast-dx cast-dy cast-dz cast-tolerance returns)
+    tie.close (tie.spec kernel-at-requires kernel-at-requires-2 kernel-at-requires-3 cast-dx cast-dy cast-dz cast-tolerance depth-limit-requires returns)

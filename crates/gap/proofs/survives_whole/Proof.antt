@@ -1,6 +1,7 @@
 -- `gap::survives_whole` meets its contract.
 use borrow.Author.Needs.{needs}
 use lib.Dec.{lit≤}
+use Rattle.kernel.specs.Ranges.{one-part}
 use Rattle.gap.specs.Prepared.{coordinates, pair-prepared, misses-z, misses-x, goes-by-y}
 use Rattle.gap.proofs.survives_whole.Statement.{statement}
 use Rattle.gap.proofs.survives_whole.Tie as tie
@@ -15,7 +16,7 @@ meets-whole-requires : tie.Need-meets-whole-requires
 meets-whole-requires c κs =
     let s = c .before .before .before .before .before in
     let q = pair-prepared (s .args .r) (s .args .words) (s .pre) in
-    (rw (c .before .kernel-at .ensures) (q .ranged .z), q .ranged .dz)
+    (rw (c .before .kernel-at .ensures) (one-part (q .ranged .z)), q .ranged .dz)
 
 kernel-at-requires-2 : tie.Need-kernel-at-requires-2
 kernel-at-requires-2 c κs = let s = c .before .before .before .before .before .before .before in (lit≤ tt, coordinates (s .args .r) (s .args .words) (s .pre))
@@ -27,7 +28,7 @@ meets-whole-requires-2 : tie.Need-meets-whole-requires-2
 meets-whole-requires-2 c κs =
     let s = c .before .before .before .before .before .before .before .before .before in
     let q = pair-prepared (s .args .r) (s .args .words) (s .pre) in
-    (rw (c .before .kernel-at2 .ensures) (q .ranged .x), q .ranged .dx)
+    (rw (c .before .kernel-at2 .ensures) (one-part (q .ranged .x)), q .ranged .dx)
 
 kernel-at-requires-3 : tie.Need-kernel-at-requires-3
 kernel-at-requires-3 c κs = let s = c .before .before .before .before .before .before .before .before .before .before .before in (lit≤ tt, coordinates (s .args .r) (s .args .words) (s .pre))
@@ -39,7 +40,7 @@ meets-whole-requires-3 : tie.Need-meets-whole-requires-3
 meets-whole-requires-3 c κs =
     let s = c .before .before .before .before .before .before .before .before .before .before .before .before .before in
     let q = pair-prepared (s .args .r) (s .args .words) (s .pre) in
-    (rw (c .before .kernel-at3 .ensures) (q .ranged .y), q .ranged .dy)
+    (rw (c .before .kernel-at3 .ensures) (one-part (q .ranged .y)), q .ranged .dy)
 
 returns : tie.Need-returns
 returns c =

@@ -47,15 +47,17 @@ module _ (S : Query) (at : Three) where
       go true t = merge-some (λ x. x ≡ highHalf p b) _ _ (inr (those-some (λ x. x ≡ highHalf p b) keeps (map (highHalf p) l) (map-among (highHalf p) keeps b l t w)))
       go false t = merge-some (λ x. x ≡ lowHalf p b) _ _ (inl (those-some (λ x. x ≡ lowHalf p b) keeps (map (lowHalf p) l) (map-among (lowHalf p) keeps b l t w)))
 
-  -- ---- what is known on the way: the level is one that the search comes to, the box is one of its boxes, and holds the point
-  pub record Way (more : ℕ) (k : Depths) (b : Box) (boxes : List Box) (c : Corner) (n : ℕ) : Type 0 where
+  -- ---- what is known on the way, with `left` levels of the descent and `more` of the search: the level is one that the search comes to, the box
+  -- is one of its boxes, and holds the point
+  pub record Way (left more : ℕ) (k : Depths) (b : Box) (boxes : List Box) (c : Corner) (n : ℕ) : Type 0 where
     pub comes : Comes S (suc more) k boxes c n
     pub shallow : Shallow S k
     pub ascending : Ascending boxes
     pub among : Among b boxes
     pub holds : Holds at (stop k b)
     pub recorded : c .t ≤ at .t
-    pub fuel : 3 * S .deepest ≤ sum k + more
+    pub fuel : 3 * S .deepest ≤ sum k + left
+    pub enough : left ≤ more
     pub ahead : T (isBefore (levels (suc more) S k boxes c n) (at .t))
 
   abbrev pub Rules : Ruling → Type 0
@@ -63,7 +65,7 @@ module _ (S : Query) (at : Three) where
   Rules (Refused n) = ⊥
 
   module _ (H : HasKernel S) (deep : S .deepest ≤ 20) (domain : Domain S (pointed at)) where
-    module _ (more : ℕ) (k : Depths) (b : Box) (boxes : List Box) (c : Corner) (n : ℕ) (W : Way more k b boxes c n) where
+    module _ (left more : ℕ) (k : Depths) (b : Box) (boxes : List Box) (c : Corner) (n : ℕ) (W : Way left more k b boxes c n) where
       in-time : Ahead S at (check S k boxes false c n)
       unfolding levels
       in-time = ahead-of S at k (levels more S) (check S k boxes false c n) (W .ahead)
@@ -112,7 +114,7 @@ module _ (S : Query) (at : Three) where
         deeper-still : Shallow S (deeper p k)
         deeper-still = deeper-shallow S k (W .shallow) (on .not-full) p open'
 
-        not-last : more ≡ 0 → ⊥
+        not-last : left ≡ 0 → ⊥
         not-last e = omega (arith, W .fuel, deeper-sum p k, deeper-still .t, deeper-still .u, deeper-still .v)
 
         -- there is room for the next level, and its answer is the answer
@@ -128,8 +130,8 @@ module _ (S : Query) (at : Three) where
             (subst (λ (r : Checked). T (isBefore (afterLevel S k (levels (suc less) S) r) (at .t))) (on .is)
             (subst (λ (m : ℕ). T (isBefore (afterLevel S k (levels m S) (check S k boxes false c n)) (at .t))) e (W .ahead)))
 
-        below : (less : ℕ) → more ≡ suc less → Way less (deeper p k) (holding p k b at) new (on .corner) (on .count)
-        below less e =
+        below : (fewer less : ℕ) → left ≡ suc fewer → more ≡ suc less → Way fewer less (deeper p k) (holding p k b at) new (on .corner) (on .count)
+        below fewer less f e =
             record {
               comes =
                   next (suc less) k boxes c n (on .count) (on .corner) (on .first) (on .rest)
@@ -140,25 +142,27 @@ module _ (S : Query) (at : Three) where
               holds = held;
               recorded = on .recorded;
               fuel = omega (arith, W .fuel, deeper-sum p k);
+              enough = omega (arith, W .enough);
               ahead = after less e .1;
             }
           where
             held : Holds at (stop (deeper p k) (holding p k b at))
             held = holding-holds at p k b (le-trans open' deep) (W .holds)
 
-    pub descend-rules : (more : ℕ) (k : Depths) (b : Box) (boxes : List Box) (c : Corner) (n : ℕ) → Way more k b boxes c n → Rules (descend more S at (stop k b))
+    pub descend-rules : (left more : ℕ) (k : Depths) (b : Box) (boxes : List Box) (c : Corner) (n : ℕ) → Way left more k b boxes c n → Rules (descend left S at (stop k b))
     unfolding descend
-    descend-rules zero k b boxes c n W = ends zero k b boxes c n W (missed S k b) (says S k b) (Refused 0) (λ t. absurd (not-last zero k b boxes c n W t refl))
-    descend-rules (suc more) k b boxes c n W =
-        ends (suc more) k b boxes c n W (missed S k b) (says S k b) (descend more S at (halfOf S at (stop k b)))
-        (λ t. descend-rules more (deeper (split S k) k) (holding (split S k) k b at) (new (suc more) k b boxes c n W t) (on (suc more) k b boxes c n W t .corner) (on (suc more) k b boxes c n W t .count)
-        (below (suc more) k b boxes c n W t more refl))
+    descend-rules zero more k b boxes c n W = ends zero more k b boxes c n W (missed S k b) (says S k b) (Refused 0) (λ t. absurd (not-last zero more k b boxes c n W t refl))
+    descend-rules (suc left) zero k b boxes c n W = absurd (omega (arith, W .enough))
+    descend-rules (suc left) (suc more) k b boxes c n W =
+        ends (suc left) (suc more) k b boxes c n W (missed S k b) (says S k b) (descend left S at (halfOf S at (stop k b)))
+        (λ t. descend-rules left more (deeper (split S k) k) (holding (split S k) k b at) (new (suc left) (suc more) k b boxes c n W t) (on (suc left) (suc more) k b boxes c n W t .corner)
+        (on (suc left) (suc more) k b boxes c n W t .count) (below (suc left) (suc more) k b boxes c n W t left more refl refl))
 
     -- ---- from the whole domain
-    pub run-rules : T (isBefore (run S) (at .t)) → Rules (descend 60 S at wholeDomain)
+    pub run-rules : T (isBefore (run S) (at .t)) → Rules (descend (3 * S .deepest) S at wholeDomain)
     unfolding run
     run-rules t =
-        descend-rules 60 origin origin (origin ∷ []) (record { t = 0; u = 0; v = 0; excess = 0 }) 0
+        descend-rules (3 * S .deepest) 60 origin origin (origin ∷ []) (record { t = 0; u = 0; v = 0; excess = 0 }) 0
         (record {
           comes = whole;
           shallow = record { t = omega arith; u = omega arith; v = omega arith };
@@ -166,6 +170,7 @@ module _ (S : Query) (at : Three) where
           among = inl refl;
           holds = whole-holds at (domain .t) (domain .u) (domain .v);
           recorded = omega arith;
-          fuel = omega (arith, deep);
+          fuel = omega arith;
+          enough = omega (arith, deep);
           ahead = t;
         })

@@ -165,19 +165,19 @@ module _ (at : Three) where
         (λ alive. further most s (descend most S at (halfOf S at s)) alive (first-of most (halfOf S at s)))
 
     -- from the whole domain
-    pub named-first : (x : Reason) → S .deepest ≡ 20 → Holds at wholeDomain → descend 60 S at wholeDomain ≡ Discarded x → First S at x
+    pub named-first : (x : Reason) → S .deepest ≤ 20 → Holds at wholeDomain → descend (3 * S .deepest) S at wholeDomain ≡ Discarded x → First S at x
     unfolding reaches
     named-first x deep w e =
         record {
           level = f .level;
           on-the-way = subst (λ (n : ℕ). down S at n wholeDomain ≡ stop (x .depths) (x .index)) (sym far) (f .there);
-          held = λ n h. down-holds n wholeDomain (omega arith) (record { t = omega arith; u = omega arith; v = omega arith }) (omega (arith, far, f .few)) w;
+          held = λ n h. down-holds n wholeDomain deep (record { t = omega arith; u = omega arith; v = omega arith }) (omega (arith, far, f .few)) w;
           survived = λ n h. f .survived n (omega (arith, far));
           axes = f .axes;
         }
       where
-        f : FirstFrom 60 wholeDomain x
-        f = subst (FirstOf 60 wholeDomain) e (first-of 60 wholeDomain)
+        f : FirstFrom (3 * S .deepest) wholeDomain x
+        f = subst (FirstOf (3 * S .deepest) wholeDomain) e (first-of (3 * S .deepest) wholeDomain)
 
         far : x .level ≡ f .steps
         far = omega (arith, f .far)

@@ -2,9 +2,8 @@
 use Prim.Native.Nat.{ℕ, _+_}
 use mathlib.Core.Path.{_≡_, sym, ap, _∙_}
 use mathlib.Core.Bool.{Bool, cond}
-use borrow.Author.Tests.{eq-eqb, ne-eqb}
 use lib.ListN.{getD}
-use Rattle.rules.specs.QueryFile.{isWide, trailerPlace}
+use Rattle.rules.specs.QueryFile.{editionFor, trailerPlace}
 use borrow.Author.Needs.{needs}
 use Rattle.queries.proofs.edition_of.Statement.{statement}
 use Rattle.queries.proofs.edition_of.Tie as tie
@@ -22,12 +21,21 @@ add-byte-at c = search needs
 byte-at-requires : tie.Need-byte-at-requires
 byte-at-requires c κs = search needs
 
+is-wide-requires : tie.Need-is-wide-requires
+is-wide-requires c κs = search needs
+
 returns : tie.Need-returns
-returns c = sym (ap (λ (b : Bool). cond b 2 1) (ap isWide (sym (named (c .before))) ∙ eq-eqb _ 2 (c .if1 .taken)))
+returns c =
+    let w = c .before .is-wide in
+    let n = named (c .before .before) in
+    sym (ap editionFor (sym n) ∙ ap (λ (b : Bool). cond b (c .before .before .byte-at .result) 1) (sym (w .ensures) ∙ c .if1 .taken))
 
 returns-2 : tie.Need-returns-2
-returns-2 c = sym (ap (λ (b : Bool). cond b 2 1) (ap isWide (sym (named (c .before))) ∙ ne-eqb _ 2 (c .if1 .left)))
+returns-2 c =
+    let w = c .before .is-wide in
+    let n = named (c .before .before) in
+    sym (ap editionFor (sym n) ∙ ap (λ (b : Bool). cond b (c .before .before .byte-at .result) 1) (sym (w .ensures) ∙ c .if1 .left))
 
 pub edition-of-spec : {M : Type 1} → statement M
 edition-of-spec =
-    tie.close (tie.spec left-from-requires add-byte-at byte-at-requires returns returns-2)
+    tie.close (tie.spec left-from-requires add-byte-at byte-at-requires is-wide-requires returns returns-2)

@@ -1,4 +1,5 @@
 -- Two runs of four and a store right behind them; the numbers fit, since the box is one of the grid.
+use lib.Dec.{lit≤}
 use borrow.Author.Needs.{needs}
 use mathlib.Core.Path.{refl, _∙_}
 use mathlib.Core.List.{[], _∷_, _++_}
@@ -26,13 +27,13 @@ write-four-requires : tie.Need-write-four-requires
 write-four-requires c κs = search needs
 
 cast-write-four-5 : tie.Need-cast-write-four-5
-cast-write-four-5 c = let g = c .before .before .before .before .before .before .before .before .before .before .before .before .before .pre .1 in omega (arith, index-most (g .depths .t) (g .index .t))
+cast-write-four-5 c = let g = c .before .before .before .before .before .before .before .before .before .before .before .before .before .pre .1 in omega (arith, index-most (lit≤ tt) (g .depths .t) (g .index .t))
 
 cast-write-four-6 : tie.Need-cast-write-four-6
-cast-write-four-6 c = let g = c .before .before .before .before .before .before .before .before .before .before .before .before .before .before .pre .1 in omega (arith, index-most (g .depths .u) (g .index .u))
+cast-write-four-6 c = let g = c .before .before .before .before .before .before .before .before .before .before .before .before .before .before .pre .1 in omega (arith, index-most (lit≤ tt) (g .depths .u) (g .index .u))
 
 cast-write-four-7 : tie.Need-cast-write-four-7
-cast-write-four-7 c = let g = c .before .before .before .before .before .before .before .before .before .before .before .before .before .before .before .pre .1 in omega (arith, index-most (g .depths .v) (g .index .v))
+cast-write-four-7 c = let g = c .before .before .before .before .before .before .before .before .before .before .before .before .before .before .before .pre .1 in omega (arith, index-most (lit≤ tt) (g .depths .v) (g .index .v))
 
 axis-number-requires : tie.Need-axis-number-requires
 axis-number-requires c κs = search needs

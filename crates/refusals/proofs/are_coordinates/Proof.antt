@@ -6,17 +6,17 @@ use native.Mathlib.Omega.{arith}
 use borrow.Author.Needs.{needs, sfits-of}
 use lib.ListN.{length, drop}
 use mir.Facts.{toZ-ofZ}
-use Rattle.rules.specs.Numbers.{isCoordinate}
+use Rattle.rules.specs.Numbers.{limitsOf, isCoordinate}
 use Rattle.rules.specs.Refusals.{every}
 use Rattle.refusals.specs.Every.{every-next, every-end}
 use Rattle.refusals.proofs.are_coordinates.Statement.{statement}
 use Rattle.refusals.proofs.are_coordinates.Tie as tie
 
 abbrev Inv-loop : tie.InvT-loop
-Inv-loop s all₀ i₀ all i = (i ≤ length s) × (every isCoordinate s ≡ (all && every isCoordinate (drop i s)))
+Inv-loop edition s all₀ i₀ all i = (i ≤ length s) × (every (isCoordinate (limitsOf edition)) s ≡ (all && every (isCoordinate (limitsOf edition)) (drop i s)))
 
 abbrev μ-loop : tie.MeasureT-loop
-μ-loop s all₀ i₀ all i = length s - i
+μ-loop edition s all₀ i₀ all i = length s - i
 
 loop-holds : tie.Need-loop-holds Inv-loop μ-loop
 loop-holds c = (omega arith, refl)
@@ -41,14 +41,14 @@ loop-again c =
     let k = c .before .before .before in (
       omega arith,
       k .loop .inv .1
-          ∙ every-next isCoordinate (k .before .args .s .now) (k .loop .all) (c .is-coordinate .result) (k .loop .i) _ (omega arith) (c .is-coordinate .ensures)
+          ∙ every-next (isCoordinate (limitsOf (k .before .args .edition))) (k .before .args .s .now) (k .loop .all) (c .is-coordinate .result) (k .loop .i) _ (omega arith) (c .is-coordinate .ensures)
           (toZ-ofZ (sfits-of (c .before .is-coordinate-arg .given))),
     )
 
 returns : tie.Need-returns Inv-loop μ-loop
 returns c =
     let l = c .before .loop in
-    sym (l .inv .1 ∙ every-end isCoordinate (c .before .before .args .s .now) (l .all) (l .i) (omega arith))
+    sym (l .inv .1 ∙ every-end (isCoordinate (limitsOf (c .before .before .args .edition))) (c .before .before .args .s .now) (l .all) (l .i) (omega arith))
 
 pub are-coordinates-spec : {M : Type 1} → statement M
 are-coordinates-spec =

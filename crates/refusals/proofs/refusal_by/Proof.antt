@@ -10,6 +10,9 @@ is-between-requires c κs = search needs
 first-requires : tie.Need-first-requires
 first-requires c κs = search needs
 
+least-tolerance-requires : tie.Need-least-tolerance-requires
+least-tolerance-requires c κs = search needs
+
 is-between-requires-2 : tie.Need-is-between-requires-2
 is-between-requires-2 c κs = search needs
 
@@ -46,13 +49,14 @@ returns c =
       c .before .before .first5 .ensures,
       c .before .before .before .are-flags .ensures,
       c .before .before .before .before .first4 .ensures,
-      c .before .before .before .before .before .before .before .before .before .before .before .pre,
+      c .before .before .before .before .before .before .before .before .before .before .before .before .pre,
       c .before .before .before .before .before .first3 .ensures,
       c .before .before .before .before .before .before .are-separations .ensures,
       c .before .before .before .before .before .before .before .first2 .ensures,
       c .before .before .before .before .before .before .before .before .is-between2 .ensures,
-      c .before .before .before .before .before .before .before .before .before .first .ensures,
-      c .before .before .before .before .before .before .before .before .before .before .is-between .ensures,
+      c .before .before .before .before .before .before .before .before .before .least-tolerance .ensures,
+      c .before .before .before .before .before .before .before .before .before .before .first .ensures,
+      c .before .before .before .before .before .before .before .before .before .before .before .is-between .ensures,
     )
 
 pub refusal-by-spec : {M : Type 1} → statement M
@@ -61,6 +65,7 @@ refusal-by-spec =
     (tie.spec
     is-between-requires
     first-requires
+    least-tolerance-requires
     is-between-requires-2
     first-requires-2
     are-separations-requires

@@ -1,5 +1,6 @@
 -- The ways out are laws of `Stepping`.
 use mathlib.Core.Path.{_∙_}
+use Rattle.kernel.specs.Ranges.{shallower}
 use Rattle.search.proofs.Stepping.{grows, splits-room, splits-level}
 use native.Mathlib.Omega.{arith}
 use borrow.Author.Needs.{needs}
@@ -14,7 +15,7 @@ split-requires c κs =
 deepen-requires : tie.Need-deepen-requires
 deepen-requires c κs =
     let s = c .before .before .before .before in
-    s .pre .fine .shallow
+    shallower (s .pre .fine .ranged .deepest) (s .pre .fine .shallow)
 
 grow-requires : tie.Need-grow-requires
 grow-requires c κs =

@@ -1,4 +1,5 @@
 -- The indices, which are below 2^20, and the end of the line.
+use lib.Dec.{lit≤}
 use borrow.Author.Needs.{needs}
 use native.Mathlib.Omega.{arith}
 use Rattle.text.proofs.Writing.{then, roomier}
@@ -16,7 +17,7 @@ write-text-requires c κs = search needs
 write-three-requires : tie.Need-write-three-requires
 write-three-requires c κs =
     let g = c .before .before .before .before .before .before .before .before .pre .1 in
-    (omega arith, (index-most (g .depths .t) (g .index .t), (index-most (g .depths .u) (g .index .u), index-most (g .depths .v) (g .index .v))))
+    (omega arith, (index-most (lit≤ tt) (g .depths .t) (g .index .t), (index-most (lit≤ tt) (g .depths .u) (g .index .u), index-most (lit≤ tt) (g .depths .v) (g .index .v))))
 
 write-byte-requires : tie.Need-write-byte-requires
 write-byte-requires c κs = search needs

@@ -1,8 +1,13 @@
 -- `gap::measure::excess` meets its contract.
 use borrow.Author.Needs.{needs}
+use mathlib.Core.Path.{_≡_}
+use Prim.Native.Nat.{_+_, _-_, _*_, _/_, _^_}
 use native.Mathlib.Omega.{arith}
-use Rattle.gap.specs.Corners.{excessOf}
-use Rattle.gap.specs.Bounds.{beyond-most}
+use Rattle.rules.specs.Search.{largest}
+use Rattle.kernel.specs.Kernel.{onAxis, apartOn}
+use Rattle.gap.specs.Corners.{beyond, excessOf}
+use Rattle.gap.specs.Steps.{unit-most}
+use Rattle.gap.specs.Bounds.{unit-least, beyond-within, excess-most, shift-is}
 use Rattle.gap.proofs.measure.excess.Statement.{statement}
 use Rattle.gap.proofs.measure.excess.Tie as tie
 
@@ -21,33 +26,49 @@ larger-requires c κs = search needs
 larger-requires-2 : tie.Need-larger-requires-2
 larger-requires-2 c κs = search needs
 
+unit-of-requires : tie.Need-unit-of-requires
+unit-of-requires c κs = search needs
+
+-- the largest, and what is worked out of it
+largest-is : (c : tie.After-unit-of) → c .before .larger2 .result ≡ largest (λ axis. beyond (onAxis (c .before .before .before .before .before .before .args .p) axis) (c .before .before .before .before .before .before .args .w) (apartOn (c .before .before .before .before .before .before .args .p) axis))
+largest-is c =
+    rw (c .before .before .larger .ensures, c .before .before .before .before .before .beyond .ensures, c .before .before .before .before .beyond2 .ensures, c .before .before .before .beyond3 .ensures)
+    at (c .before .larger2 .ensures)
+
+got : (c : tie.After-unit-of) → (c .before .larger2 .result + (c .unit-of .result - 1)) / 2 ^ (2 * c .before .before .before .before .before .before .args .p .deepest) ≡ excessOf (c .before .before .before .before .before .before .args .p) (c .before .before .before .before .before .before .args .w)
+unfolding excessOf
+got c = rw (shift-is (c .before .before .before .before .before .before .pre), largest-is c, c .unit-of .ensures)
+
 sub-result : tie.Need-sub-result
-sub-result c = search needs
+sub-result c = rw (c .unit-of .ensures) (unit-least (c .before .before .before .before .before .before .pre))
 
 add-result : tie.Need-add-result
 add-result c =
-    let a = c .before .before .before .before .before .args .p in
-    let p = c .before .before .before .before .before .pre in
-    omega (
-      arith,
-      beyond-most (p .0 .x) (a .dx) (p .1),
-      beyond-most (p .0 .y) (a .dy) (p .1),
-      beyond-most (p .0 .z) (a .dz) (p .1),
-    )
+    let s = c .before .before .before .before .before .before in
+    let o = s .pre in
+    record {
+      fits = omega (
+        arith,
+        largest-is c,
+        c .unit-of .ensures,
+        unit-most (o .inParts),
+        beyond-within (o .x) (o .inParts) (s .args .p .dx),
+        beyond-within (o .y) (o .inParts) (s .args .p .dy),
+        beyond-within (o .z) (o .inParts) (s .args .p .dz),
+      );
+    }
+
+mul-result : tie.Need-mul-result
+mul-result c = record { fits = omega (arith, c .before .before .before .before .before .before .before .pre .deepest) }
+
+shr-result : tie.Need-shr-result
+shr-result c = omega (arith, c .before .before .before .before .before .before .before .pre .deepest)
 
 cast-result : tie.Need-cast-result
-cast-result c = search needs
+cast-result c = rw (got (c .before)) (record { fits = omega (arith, excess-most (c .before .before .before .before .before .before .before .pre)) })
 
 returns : tie.Need-returns
-unfolding excessOf
-returns c =
-    rw (
-      c .larger2 .ensures,
-      c .before .larger .ensures,
-      c .before .before .before .before .beyond .ensures,
-      c .before .before .before .beyond2 .ensures,
-      c .before .before .beyond3 .ensures,
-    )
+returns c = got (c .before)
 
 pub excess-spec : {M : Type 1} → statement M
 excess-spec =
@@ -58,7 +79,10 @@ excess-spec =
     beyond-requires-3
     larger-requires
     larger-requires-2
+    unit-of-requires
     sub-result
     add-result
+    mul-result
+    shr-result
     cast-result
     returns)

@@ -2,7 +2,7 @@
 use lib.IntN.{negℤ, +ℤ-idl}
 use mir.Facts.{toZ-ofZ}
 use Rattle.whole.specs.Within.{within-sub, within-pos, fits}
-use Rattle.gap.specs.Steps.{read-part, term-within}
+use Rattle.gap.specs.Steps.{part-most, read-part, term-within}
 use Rattle.gap.specs.Slab.{edges-within}
 use Rattle.gap.specs.Bounds.{span-within}
 use borrow.Author.Needs.{needs}
@@ -17,16 +17,18 @@ cast-u c = search needs
 
 mul-u : tie.Need-mul-u
 mul-u c =
-    let p = c .before .before .before .before .pre in
-    rw (read-part (p .1 .0 .u1), toZ-ofZ (fits tt (p .0 .b))) (fits tt (term-within (p .1 .0 .u1) (p .0 .b)))
+    let s = c .before .before .before .before in
+    let p = s .pre in
+    rw (read-part (part-most (p .1 .0) (p .1 .0 .u1)), toZ-ofZ (fits tt (p .0 .itself .b))) (fits tt (term-within (s .args .m .b) (p .1 .0 .u1) (p .0 .b)))
 
 cast-v : tie.Need-cast-v
 cast-v c = search needs
 
 mul-v : tie.Need-mul-v
 mul-v c =
-    let p = c .before .before .before .before .before .before .before .pre in
-    rw (read-part (p .1 .0 .v1), toZ-ofZ (fits tt (p .0 .c))) (fits tt (term-within (p .1 .0 .v1) (p .0 .c)))
+    let s = c .before .before .before .before .before .before .before in
+    let p = s .pre in
+    rw (read-part (part-most (p .1 .0) (p .1 .0 .v1)), toZ-ofZ (fits tt (p .0 .itself .c))) (fits tt (term-within (s .args .m .c) (p .1 .0 .v1) (p .0 .c)))
 
 sub-from : tie.Need-sub-from
 sub-from c =
@@ -53,11 +55,11 @@ returns c =
     let e = edges-within (p .0) (p .1 .0) (p .1 .1) in
     let w = span-within (p .0) (p .1 .0) in
     rw (
-      read-part (p .1 .0 .u1),
-      toZ-ofZ (fits tt (p .0 .b)),
+      read-part (part-most (p .1 .0) (p .1 .0 .u1)),
+      toZ-ofZ (fits tt (p .0 .itself .b)),
       toZ-ofZ (fits tt (e .by-u)),
-      read-part (p .1 .0 .v1),
-      toZ-ofZ (fits tt (p .0 .c)),
+      read-part (part-most (p .1 .0) (p .1 .0 .v1)),
+      toZ-ofZ (fits tt (p .0 .itself .c)),
       toZ-ofZ (fits tt (e .by-v)),
       toZ-ofZ (fits tt (p .1 .1)),
       toZ-ofZ (fits tt (within-sub (within-pos 0) (p .1 .1))),

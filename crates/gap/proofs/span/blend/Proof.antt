@@ -16,12 +16,12 @@ mul-result-2 c = search needs
 add-result : tie.Need-add-result
 add-result c =
     let p = c .pre in
-    rw (toZ-ofZ (c .fits .x), toZ-ofZ (c .fits .y), toZ-ofZ (c .fits .t), toZ-ofZ (p .whole), toZ-ofZ (p .change), toZ-ofZ (p .part)) (p .sum)
+    rw (toZ-ofZ (c .fits .parts), toZ-ofZ (c .fits .x), toZ-ofZ (c .fits .y), toZ-ofZ (c .fits .t), toZ-ofZ (p .whole), toZ-ofZ (p .change), toZ-ofZ (p .part)) (p .sum)
 
 returns : tie.Need-returns
 returns c =
     let p = c .pre in
-    rw (toZ-ofZ (c .fits .x), toZ-ofZ (c .fits .y), toZ-ofZ (c .fits .t), toZ-ofZ (p .whole), toZ-ofZ (p .change), toZ-ofZ (p .part), toZ-ofZ (p .sum)) (p .is)
+    rw (toZ-ofZ (c .fits .parts), toZ-ofZ (c .fits .x), toZ-ofZ (c .fits .y), toZ-ofZ (c .fits .t), toZ-ofZ (p .whole), toZ-ofZ (p .change), toZ-ofZ (p .part), toZ-ofZ (p .sum)) (p .is)
 
 pub blend-spec : {M : Type 1} → statement M
 blend-spec = tie.close (tie.spec mul-result sub-result mul-result-2 add-result returns)

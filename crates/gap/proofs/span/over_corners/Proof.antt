@@ -2,7 +2,7 @@
 use borrow.Author.Needs.{needs}
 use mathlib.Core.Path.{_∙_}
 use Rattle.gap.specs.Affine.{span-over}
-use Rattle.gap.specs.Steps.{moment-small}
+use Rattle.gap.specs.Steps.{moment-fine}
 use Rattle.gap.proofs.span.over_corners.Statement.{statement}
 use Rattle.gap.proofs.span.over_corners.Tie as tie
 
@@ -12,7 +12,7 @@ at-moment-requires c κs = search needs
 over-face-requires : tie.Need-over-face-requires
 over-face-requires c κs =
     let p = c .before .pre in
-    (rw (c .at-moment .ensures) (moment-small (p .0) (p .1 .t0)), p .1)
+    (rw (c .at-moment .ensures) (moment-fine (p .0) (p .1 .t0)), p .1)
 
 at-moment-requires-2 : tie.Need-at-moment-requires-2
 at-moment-requires-2 c κs = search needs
@@ -20,7 +20,7 @@ at-moment-requires-2 c κs = search needs
 over-face-requires-2 : tie.Need-over-face-requires-2
 over-face-requires-2 c κs =
     let p = c .before .before .before .pre in
-    (rw (c .at-moment2 .ensures) (moment-small (p .0) (p .1 .t1)), p .1)
+    (rw (c .at-moment2 .ensures) (moment-fine (p .0) (p .1 .t1)), p .1)
 
 join-requires : tie.Need-join-requires
 join-requires c κs = search needs

@@ -1,18 +1,18 @@
 -- `gap::weigh::spread_t` meets its contract.
 use borrow.Author.Needs.{needs}
 use mathlib.Core.Path.{_∙_}
-use Rattle.gap.specs.Spread.{none, full, change-small, spread-t}
+use Rattle.gap.specs.Spread.{none, full, numbers, change-small, spread-t}
 use Rattle.gap.proofs.weigh.spread_t.Statement.{statement}
 use Rattle.gap.proofs.weigh.spread_t.Tie as tie
 
 change-requires : tie.Need-change-requires
-change-requires c κs = search needs
+change-requires c κs = numbers (c .pre .x)
 
 change-requires-2 : tie.Need-change-requires-2
-change-requires-2 c κs = search needs
+change-requires-2 c κs = numbers (c .before .pre .y)
 
 change-requires-3 : tie.Need-change-requires-3
-change-requires-3 c κs = search needs
+change-requires-3 c κs = numbers (c .before .before .pre .z)
 
 way-requires : tie.Need-way-requires
 way-requires c κs =
@@ -21,8 +21,8 @@ way-requires c κs =
       (
         none,
         (
-          rw (c .before .before .change .ensures) (change-small (r .x)),
-          (rw (c .before .change2 .ensures) (change-small (r .y)), rw (c .change3 .ensures) (change-small (r .z))),
+          rw (c .before .before .change .ensures) (change-small (numbers (r .x))),
+          (rw (c .before .change2 .ensures) (change-small (numbers (r .y))), rw (c .change3 .ensures) (change-small (numbers (r .z)))),
         ),
       ),
     )
@@ -34,8 +34,8 @@ way-requires-2 c κs =
       (
         full,
         (
-          rw (c .before .before .before .change .ensures) (change-small (r .x)),
-          (rw (c .before .before .change2 .ensures) (change-small (r .y)), rw (c .before .change3 .ensures) (change-small (r .z))),
+          rw (c .before .before .before .change .ensures) (change-small (numbers (r .x))),
+          (rw (c .before .before .change2 .ensures) (change-small (numbers (r .y))), rw (c .before .change3 .ensures) (change-small (numbers (r .z)))),
         ),
       ),
     )
@@ -50,8 +50,8 @@ way-requires-3 c κs =
       (
         none,
         (
-          rw (c .before .before .before .before .before .change .ensures) (change-small (r .x)),
-          (rw (c .before .before .before .before .change2 .ensures) (change-small (r .y)), rw (c .before .before .before .change3 .ensures) (change-small (r .z))),
+          rw (c .before .before .before .before .before .change .ensures) (change-small (numbers (r .x))),
+          (rw (c .before .before .before .before .change2 .ensures) (change-small (numbers (r .y))), rw (c .before .before .before .change3 .ensures) (change-small (numbers (r .z)))),
         ),
       ),
     )
@@ -63,8 +63,8 @@ way-requires-4 c κs =
       (
         full,
         (
-          rw (c .before .before .before .before .before .before .change .ensures) (change-small (r .x)),
-          (rw (c .before .before .before .before .before .change2 .ensures) (change-small (r .y)), rw (c .before .before .before .before .change3 .ensures) (change-small (r .z))),
+          rw (c .before .before .before .before .before .before .change .ensures) (change-small (numbers (r .x))),
+          (rw (c .before .before .before .before .before .change2 .ensures) (change-small (numbers (r .y))), rw (c .before .before .before .before .change3 .ensures) (change-small (numbers (r .z)))),
         ),
       ),
     )

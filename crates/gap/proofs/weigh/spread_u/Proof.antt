@@ -3,21 +3,21 @@ use borrow.Author.Needs.{needs}
 use mathlib.Core.Path.{_∙_}
 use mir.Facts.{toZ-ofZ}
 use Rattle.whole.specs.Within.{fits}
-use Rattle.gap.specs.Spread.{wide, spread-u}
+use Rattle.gap.specs.Spread.{numbers, wide, spread-u}
 use Rattle.gap.proofs.weigh.spread_u.Statement.{statement}
 use Rattle.gap.proofs.weigh.spread_u.Tie as tie
 
 largest-requires : tie.Need-largest-requires
 largest-requires c κs =
     let r = c .before .before .before .before .before .before .pre in
-    rw (toZ-ofZ (fits tt (r .x .b0)), toZ-ofZ (fits tt (r .y .b0)), toZ-ofZ (fits tt (r .z .b0)))
-    (wide (r .x .b0), (wide (r .y .b0), wide (r .z .b0)))
+    rw (toZ-ofZ (fits tt (numbers (r .x) .b0)), toZ-ofZ (fits tt (numbers (r .y) .b0)), toZ-ofZ (fits tt (numbers (r .z) .b0)))
+    (wide (numbers (r .x) .b0), (wide (numbers (r .y) .b0), wide (numbers (r .z) .b0)))
 
 largest-requires-2 : tie.Need-largest-requires-2
 largest-requires-2 c κs =
     let r = c .before .before .before .before .before .before .before .before .before .before .pre in
-    rw (toZ-ofZ (fits tt (r .x .b1)), toZ-ofZ (fits tt (r .y .b1)), toZ-ofZ (fits tt (r .z .b1)))
-    (wide (r .x .b1), (wide (r .y .b1), wide (r .z .b1)))
+    rw (toZ-ofZ (fits tt (numbers (r .x) .b1)), toZ-ofZ (fits tt (numbers (r .y) .b1)), toZ-ofZ (fits tt (numbers (r .z) .b1)))
+    (wide (numbers (r .x) .b1), (wide (numbers (r .y) .b1), wide (numbers (r .z) .b1)))
 
 larger-requires : tie.Need-larger-requires
 larger-requires c κs = search needs
@@ -28,12 +28,12 @@ returns c =
     (rw (
       c .before .before .before .before .before .largest .ensures,
       c .before .largest2 .ensures,
-      toZ-ofZ (fits tt (r .x .b0)),
-      toZ-ofZ (fits tt (r .y .b0)),
-      toZ-ofZ (fits tt (r .z .b0)),
-      toZ-ofZ (fits tt (r .x .b1)),
-      toZ-ofZ (fits tt (r .y .b1)),
-      toZ-ofZ (fits tt (r .z .b1)),
+      toZ-ofZ (fits tt (numbers (r .x) .b0)),
+      toZ-ofZ (fits tt (numbers (r .y) .b0)),
+      toZ-ofZ (fits tt (numbers (r .z) .b0)),
+      toZ-ofZ (fits tt (numbers (r .x) .b1)),
+      toZ-ofZ (fits tt (numbers (r .y) .b1)),
+      toZ-ofZ (fits tt (numbers (r .z) .b1)),
     )
     at (c .larger .ensures))
     ∙ spread-u (c .before .before .before .before .before .before .before .before .before .before .before .before .args .p)

@@ -23,10 +23,10 @@ add-result : tie.Need-add-result
 add-result c = let s = c .before in omega (arith, weight-most (s .args .k) (s .pre .0))
 
 returns : tie.Need-returns
-returns c = rw (eq-eqb _ 20 (c .if1 .taken))
+returns c = rw (eq-eqb _ _ (c .if1 .taken))
 
 returns-2 : tie.Need-returns-2
-returns-2 c = let s = c .before in rw (ne-eqb _ 20 (c .if1 .left), exact (s .args .k) (s .pre .0))
+returns-2 c = let s = c .before in rw (ne-eqb _ _ (c .if1 .left), exact (s .args .k) (s .pre .0))
 
 pub weight-spec : {M : Type 1} → statement M
 weight-spec = tie.close (tie.spec sub-result shl-result add-result returns returns-2)

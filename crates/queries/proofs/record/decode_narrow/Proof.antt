@@ -4,26 +4,26 @@ use borrow.Author.Needs.{needs}
 use Rattle.queries.proofs.record.decode_narrow.Statement.{statement}
 use Rattle.queries.proofs.record.decode_narrow.Tie as tie
 
-shared-slice-read-t5 : tie.Need-shared-slice-read-t5
-shared-slice-read-t5 c = search needs
+shared-slice-read-t6 : tie.Need-shared-slice-read-t6
+shared-slice-read-t6 c = search needs
 
-add-t6 : tie.Need-add-t6
-add-t6 c = search needs
+add-t7 : tie.Need-add-t7
+add-t7 c = search needs
 
-shared-slice-read-t8 : tie.Need-shared-slice-read-t8
-shared-slice-read-t8 c = search needs
+shared-slice-read-t9 : tie.Need-shared-slice-read-t9
+shared-slice-read-t9 c = search needs
 
-add-t9 : tie.Need-add-t9
-add-t9 c = search needs
+add-t10 : tie.Need-add-t10
+add-t10 c = search needs
 
-shared-slice-read-t11 : tie.Need-shared-slice-read-t11
-shared-slice-read-t11 c = search needs
+shared-slice-read-t12 : tie.Need-shared-slice-read-t12
+shared-slice-read-t12 c = search needs
 
-add-t12 : tie.Need-add-t12
-add-t12 c = search needs
+add-t13 : tie.Need-add-t13
+add-t13 c = search needs
 
-shared-slice-read-t14 : tie.Need-shared-slice-read-t14
-shared-slice-read-t14 c = search needs
+shared-slice-read-t15 : tie.Need-shared-slice-read-t15
+shared-slice-read-t15 c = search needs
 
 add-read-u32 : tie.Need-add-read-u32
 add-read-u32 c = search needs
@@ -78,13 +78,13 @@ pub decode-narrow-spec : {M : Type 1} → statement M
 decode-narrow-spec =
     tie.close
     (tie.spec
-    shared-slice-read-t5
-    add-t6
-    shared-slice-read-t8
-    add-t9
-    shared-slice-read-t11
-    add-t12
-    shared-slice-read-t14
+    shared-slice-read-t6
+    add-t7
+    shared-slice-read-t9
+    add-t10
+    shared-slice-read-t12
+    add-t13
+    shared-slice-read-t15
     add-read-u32
     read-u32-requires
     add-read-u32-2
