@@ -1,6 +1,6 @@
 //! The query file: free leading bytes, records, a trailer that points back.
 
-use crate::edition::Edition;
+use crate::edition::{Edition, Range};
 use crate::record::{word_at, Record};
 use crate::refusals::{check_record, check_to_write, Refusal};
 
@@ -54,20 +54,23 @@ pub fn record_number(n: usize) -> u32 {
     u32::try_from(n).unwrap_or(u32::MAX)
 }
 
-/// Record n as it stands: refusals 8 to 13, the record itself unchecked.
-pub fn record_at(file: &[u8], n: u32) -> Result<Record, Refusal> {
+/// Record n as it stands, and the range of its edition: refusals 8 to 13, the record itself unchecked.
+pub fn record_at(file: &[u8], n: u32) -> Result<(Record, Range), Refusal> {
     let Opened { edition, first, count } = open(file)?;
     if n >= count {
         return Err(Refusal::Index);
     }
     let from = first + edition.records_bytes(n);
-    Ok(Record::from_bytes(edition, &file[from..from + edition.record_bytes()]))
+    let bytes = &file[from..from + edition.record_bytes()];
+    Ok((Record::from_bytes(edition, bytes), edition.range()))
 }
 
 /// Record n: refusals 8 to 13, then 1 to 6.
 pub fn fetch(file: &[u8], n: u32) -> Result<Record, RefusedFetch> {
-    let record = record_at(file, n).map_err(|refusal| RefusedFetch { refusal, id: None })?;
-    check_record(&record).map_err(|refusal| RefusedFetch { refusal, id: Some(record.id) })?;
+    let found = record_at(file, n).map_err(|refusal| RefusedFetch { refusal, id: None });
+    let (record, range) = found?;
+    check_record(&record, range)
+        .map_err(|refusal| RefusedFetch { refusal, id: Some(record.id) })?;
     Ok(record)
 }
 

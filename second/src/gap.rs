@@ -2,7 +2,7 @@
 
 use crate::record::{Record, VERTEX_FACE};
 
-/// The common denominator of t, u, v: at depth 20 every corner is whole over it.
+/// The common denominator of t, u, v: at every edition's greatest depth each corner is whole over it, in edition 3 an even number.
 pub const Q: i128 = 1 << 20;
 
 /// The eight points of a record after the flag, wide enough for every product below.
@@ -16,11 +16,9 @@ impl Motion {
     pub fn of(record: &Record) -> Motion {
         let vertex_face = record.kind == VERTEX_FACE;
         let mirrored = record.flags & 1 == 1;
-        // The second body starts behind the vertex, or behind the first edge.
-        let second_body = if vertex_face { 1 } else { 2 };
         let widen = |points: [[i32; 3]; 4]| {
             let mut wide = points.map(|point| point.map(i128::from));
-            for point in &mut wide[second_body..] {
+            for point in &mut wide[record.second_body()..] {
                 point[1] = if mirrored { -point[1] } else { point[1] };
             }
             wide

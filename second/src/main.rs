@@ -4,6 +4,7 @@ use std::fs::File;
 use std::io::{Read, Write};
 use std::process::ExitCode;
 
+use second::edition::Edition;
 use second::gen::{flavours, generate, queries::queries, words::words};
 use second::script;
 use second::text::{sweep, MOST_INPUT, SWEEP_WORDS};
@@ -15,7 +16,7 @@ usage: second sweep [WORDS]         answers the query file on standard input
        second gen SEED FLAVOUR      writes a query file
        second flavours              lists the flavours
        second words SEED FLAVOUR    queue lengths worth trying on that file
-       second queries SEED N        cheap queries and their answers, one a line
+       second queries SEED N [3]    cheap queries and their answers, one a line; of edition 2, or of edition 3
        second write                 makes a query file of the text on standard input";
 
 fn main() -> ExitCode {
@@ -43,12 +44,15 @@ fn run(arguments: &[&str]) -> Option<Vec<u8>> {
         ["gen", seed, flavour] => generate(seed.parse().ok()?, flavour),
         ["flavours"] => Some((flavours().join("\n") + "\n").into_bytes()),
         ["words", seed, flavour] => Some(spaced(&words(seed.parse().ok()?, flavour)?)),
-        ["queries", seed, number] => {
-            Some(queries(seed.parse().ok()?, number.parse().ok()?).into_bytes())
-        }
+        ["queries", seed, number] => query_lines(seed, number, Edition::Two),
+        ["queries", seed, number, "3"] => query_lines(seed, number, Edition::Three),
         ["write"] => script::write(&String::from_utf8(input()).ok()?).ok(),
         _ => None,
     }
+}
+
+fn query_lines(seed: &str, number: &str, edition: Edition) -> Option<Vec<u8>> {
+    Some(queries(seed.parse().ok()?, number.parse().ok()?, edition).into_bytes())
 }
 
 /// The line of `why`; nothing is read where an argument is no number.

@@ -1,4 +1,4 @@
-//! A record as a value with every field, and its bytes in either edition.
+//! A record as a value with every field, and its bytes in each edition.
 
 use crate::edition::Edition;
 
@@ -22,7 +22,7 @@ pub struct Record {
     pub separations: [u32; 3],
     pub tolerance: u32,
     pub budget: u32,
-    /// The word at 28 of edition 2; an edition 1 record has none and means zero.
+    /// The word at 28 of editions 2 and 3; an edition 1 record has none and means zero.
     pub spare: u32,
     /// p, v1, v2, v3 or p1, p2, p3, p4 at t = 0.
     pub start: [Point; 4],
@@ -31,12 +31,21 @@ pub struct Record {
 }
 
 impl Record {
+    /// Where the second body's points begin: behind the vertex, or behind the first edge.
+    pub fn second_body(&self) -> usize {
+        if self.kind == VERTEX_FACE {
+            1
+        } else {
+            2
+        }
+    }
+
     /// The record's bytes, little-endian, whatever the fields hold; edition 1 has room for x's separation only.
     pub fn bytes(&self, edition: Edition) -> Vec<u8> {
         let Record { id, separations: [x, y, z], tolerance, budget, spare, .. } = *self;
         let numbers = match edition {
             Edition::One => vec![id, x, tolerance, budget],
-            Edition::Two => vec![id, x, y, z, tolerance, budget, spare],
+            Edition::Two | Edition::Three => vec![id, x, y, z, tolerance, budget, spare],
         };
         let mut bytes = vec![self.kind, self.flags, self.byte2, self.byte3];
         bytes.extend(numbers.into_iter().flat_map(u32::to_le_bytes));
@@ -50,7 +59,9 @@ impl Record {
         let word = |at: usize| word_at(bytes, at);
         let (separations, tolerance, budget, spare, from) = match edition {
             Edition::One => ([word(8); 3], word(12), word(16), 0, 20),
-            Edition::Two => ([8, 12, 16].map(word), word(20), word(24), word(28), 32),
+            Edition::Two | Edition::Three => {
+                ([8, 12, 16].map(word), word(20), word(24), word(28), 32)
+            }
         };
         let point = |at: usize| [at, at + 4, at + 8].map(|at| word(at) as i32);
         let points = |at: usize| [at, at + 12, at + 24, at + 36].map(point);

@@ -1,6 +1,6 @@
 //! The refusals' numbers, and the checks on a record and on a queue's length.
 
-use crate::edition::Edition;
+use crate::edition::{Edition, Range};
 use crate::record::{Record, EDGE_EDGE, VERTEX_FACE};
 
 #[derive(Clone, Copy, Debug, PartialEq, Eq)]
@@ -31,26 +31,24 @@ impl Refusal {
     }
 }
 
-pub const MOST_COORDINATE: i32 = 1_048_576;
 pub const MOST_SEPARATION: u32 = 65_536;
-pub const LEAST_TOLERANCE: u32 = 16;
 pub const MOST_TOLERANCE: u32 = 1_048_576;
 pub const MOST_BUDGET: u32 = 1_000_000;
 pub const LEAST_WORDS: usize = 2;
 pub const MOST_WORDS: usize = 1_048_576;
 
 /// Refusals 1 to 6, lowest number first.
-pub fn check_record(record: &Record) -> Result<(), Refusal> {
-    check(record, false)
+pub fn check_record(record: &Record, range: Range) -> Result<(), Refusal> {
+    check_within(record, range, false)
 }
 
 /// The same for a writer, whose edition may be any number; edition 1 has room for one separation.
 pub fn check_to_write(record: &Record, edition: u8) -> Result<(), Refusal> {
-    check(record, edition == Edition::One.number())
+    check_within(record, Range::of(edition), edition == Edition::One.number())
 }
 
-fn check(record: &Record, one_separation: bool) -> Result<(), Refusal> {
-    let in_range = |c: &i32| (-MOST_COORDINATE..=MOST_COORDINATE).contains(c);
+/// The same by a range, with room for one separation or for three.
+pub fn check_within(record: &Record, range: Range, one_separation: bool) -> Result<(), Refusal> {
     let mut coordinates = record.start.iter().chain(&record.end).flatten();
     if record.kind != VERTEX_FACE && record.kind != EDGE_EDGE {
         return Err(Refusal::Kind);
@@ -58,14 +56,14 @@ fn check(record: &Record, one_separation: bool) -> Result<(), Refusal> {
     if record.flags > 1 || record.byte2 != 0 || record.byte3 != 0 || record.spare != 0 {
         return Err(Refusal::Flags);
     }
-    if !coordinates.all(in_range) {
+    if !coordinates.all(|coordinate| range.holds(*coordinate)) {
         return Err(Refusal::Coord);
     }
     let [x, y, z] = record.separations;
     if x.max(y).max(z) > MOST_SEPARATION || one_separation && (x != y || y != z) {
         return Err(Refusal::Separation);
     }
-    if !(LEAST_TOLERANCE..=MOST_TOLERANCE).contains(&record.tolerance) {
+    if !(range.least_tolerance..=MOST_TOLERANCE).contains(&record.tolerance) {
         return Err(Refusal::Tolerance);
     }
     if !(1..=MOST_BUDGET).contains(&record.budget) {

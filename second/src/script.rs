@@ -1,7 +1,8 @@
 //! Query files written from plain text, for people who make one by hand.
 //!
 //! A line is a record: kind, flags, id, separation, tolerance, budget, then x, y, z of the four points at the start and of the four at
-//! the end. Behind a line `edition 2`, which stands before the records, a record has three separations. What stands behind a `#` is a remark.
+//! the end. Behind a line `edition 2` or `edition 3`, which stands before the records, a record has three separations. What stands behind a
+//! `#` is a remark.
 
 use crate::edition::Edition;
 use crate::file::file_of;
@@ -15,17 +16,24 @@ pub fn write(text: &str) -> Result<Vec<u8>, usize> {
         let said: Vec<&str> = line.split('#').next().unwrap_or("").split_whitespace().collect();
         match said[..] {
             [] => {}
-            ["edition", "2"] if records.is_empty() => edition = Edition::Two,
+            ["edition", number] if records.is_empty() => {
+                edition = named(number).ok_or(place + 1)?;
+            }
             _ => records.push(record(edition, &said).ok_or(place + 1)?),
         }
     }
     Ok(file_of(edition, &records))
 }
 
+/// The edition of a number, if there is one.
+fn named(number: &str) -> Option<Edition> {
+    Edition::of(number.parse().ok()?).ok()
+}
+
 /// The record of a line of numbers.
 fn record(edition: Edition, said: &[&str]) -> Option<Record> {
     let mut numbers: Vec<i64> = said.iter().map(|n| n.parse().ok()).collect::<Option<_>>()?;
-    if edition == Edition::One {
+    if !edition.is_by_axis() {
         let separation = *numbers.get(3)?;
         numbers.splice(3..4, [separation; 3]);
     }

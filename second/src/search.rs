@@ -2,13 +2,11 @@
 
 pub mod log;
 
+use crate::edition::Range;
 use crate::gap::{corners, Motion, Q};
 use crate::record::{Record, VERTEX_FACE};
 use crate::refusals::{check_record, check_words, Refusal};
 use log::{Checked, GridBox, LoggedLevel, Miss, Side};
-
-/// The deepest that a parameter is split.
-const DEEPEST: u32 = 20;
 
 /// The recorded corner of an answer, t, u, v in 1/1,048,576 parts.
 #[derive(Clone, Copy, Debug, PartialEq, Eq)]
@@ -76,6 +74,7 @@ struct Check {
 /// One search under way.
 struct Search<'a> {
     record: &'a Record,
+    deepest: u32,
     motion: Motion,
     /// By axis, times Q·Q.
     separations: [i128; 3],
@@ -84,15 +83,15 @@ struct Search<'a> {
     trace: Trace,
 }
 
-/// The answer to a record with a queue of so many words.
-pub fn search(record: &Record, words: usize) -> Answer {
-    search_traced(record, words).0
+/// The answer to a record of an edition with this range, with a queue of so many words.
+pub fn search(record: &Record, range: Range, words: usize) -> Answer {
+    search_traced(record, range, words).0
 }
 
 /// The same answer, with what the search went through.
-pub fn search_traced(record: &Record, words: usize) -> (Answer, Trace) {
-    match check_record(record).and_then(|()| check_words(words)) {
-        Ok(()) => Search::new(record).run(words / 2),
+pub fn search_traced(record: &Record, range: Range, words: usize) -> (Answer, Trace) {
+    match check_record(record, range).and_then(|()| check_words(words)) {
+        Ok(()) => Search::new(record, range.deepest).run(words / 2),
         Err(refusal) => (Answer::Refused(refusal), Trace::new()),
     }
 }
@@ -104,9 +103,10 @@ impl Trace {
 }
 
 impl<'a> Search<'a> {
-    fn new(record: &'a Record) -> Search<'a> {
+    fn new(record: &'a Record, deepest: u32) -> Search<'a> {
         Search {
             record,
+            deepest,
             motion: Motion::of(record),
             separations: record.separations.map(|d| i128::from(d) * Q * Q),
             count: 0,
@@ -203,7 +203,7 @@ impl<'a> Search<'a> {
         if excess == 0 || width <= i128::from(self.record.tolerance) * Q * Q {
             return Err(Answer::Met(self.corner()));
         }
-        if depths == [DEEPEST; 3] {
+        if depths == [self.deepest; 3] {
             return Err(Answer::Floor(self.corner()));
         }
         Ok(())
@@ -211,7 +211,7 @@ impl<'a> Search<'a> {
 
     /// The next level: both halves of every survivor, but for those outside the face.
     fn split(&self, depths: [u32; 3], survivors: &[GridBox], differences: &[i128; 3]) -> Level {
-        let parameter = split_parameter(depths, differences);
+        let parameter = split_parameter(depths, self.deepest, differences);
         let mut next = depths;
         next[parameter] += 1;
         let mut boxes = Vec::new();
@@ -268,19 +268,19 @@ fn round_up(scaled: i128) -> u32 {
 }
 
 /// The parameter to split: largest difference over 2 to its depth, ties to t, then u.
-fn split_parameter(depths: [u32; 3], differences: &[i128; 3]) -> usize {
+fn split_parameter(depths: [u32; 3], deepest: u32, differences: &[i128; 3]) -> usize {
     let mut best: Option<(usize, i128)> = None;
     for parameter in 0..3 {
-        if depths[parameter] == DEEPEST {
+        if depths[parameter] == deepest {
             continue;
         }
-        // Times 2 to 20, so that the division by 2 to the depth leaves no rest.
+        // Times Q, so that the division by 2 to the depth leaves no rest.
         let weight = differences[parameter] * (Q >> depths[parameter]);
         if best.is_none_or(|(_, most)| weight > most) {
             best = Some((parameter, weight));
         }
     }
-    best.expect("at three depths 20 a survivor has answered").0
+    best.expect("at three greatest depths a survivor has answered").0
 }
 
 #[cfg(test)]

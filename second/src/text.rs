@@ -37,8 +37,9 @@ pub fn sweep_any_length(input: &[u8], words: usize) -> String {
     let mut text = String::new();
     let mut tallies = Tallies::default();
     for n in 0..opened.count {
-        let record = record_at(input, n).expect("n is below the count of an opened file");
-        let answer = search(&record, words);
+        let found = record_at(input, n);
+        let (record, range) = found.expect("n is below the count of an opened file");
+        let answer = search(&record, range, words);
         tallies.add(&answer);
         text += &line(record.id, &answer);
     }

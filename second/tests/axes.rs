@@ -7,7 +7,7 @@ use second::edition::Edition::{One, Two};
 use second::file::file_of;
 use second::gap::{Motion, Q};
 use second::record::{Point, Record, VERTEX_FACE};
-use second::search::Answer;
+use second::search::{search, Answer};
 use second::text::sweep_any_length;
 
 /// 5 cm sideways, 40 cm under the gangway.
@@ -127,10 +127,11 @@ fn sampled_contact(record: &Record) -> Option<i128> {
 #[test]
 fn no_contact_comes_before_the_answered_time() {
     let mut seen = [0; 2];
-    for file in ["tiny2", "degenerate2", "full2"].iter().flat_map(|name| files(name, 8)) {
-        for record in records(&file) {
+    let shapes = ["tiny2", "degenerate2", "full2", "tiny3", "degenerate3", "full3"];
+    for file in shapes.iter().flat_map(|name| files(name, 8)) {
+        for (record, range) in ranged(&file) {
             let Some(contact) = sampled_contact(&record) else { continue };
-            match ask(record) {
+            match search(&record, range, 4096) {
                 Answer::Met(c) | Answer::Spent(c) | Answer::Room(c) => {
                     assert!(i128::from(c.t) <= contact, "{record:?}");
                     seen[usize::from(contact > 0)] += 1;

@@ -10,12 +10,13 @@ use second::bench::float::{queries, Found};
 use second::bench::measure::{by_turns, median, Contestant};
 use second::bench::motion::Asked;
 use second::bench::plain::Plain;
-use second::bench::reading::{records, ONE};
+use second::bench::reading::{records, ONE, TWO};
 use second::bench::same::Same;
 use second::bench::table;
 use second::beside::{bodies, Expected};
 use second::bodies::{answer, told, Bodies};
-use second::edition::Edition::{One, Two};
+use second::edition::Edition::{self, One, Three, Two};
+use second::edition::Range;
 use second::file::{file_of, open};
 use second::gen::{flavours, generate};
 use second::record::{Record, EDGE_EDGE, VERTEX_FACE};
@@ -76,7 +77,7 @@ fn gapped(rng: &mut Rng) -> Record {
         budget,
         start,
         end,
-        ..Berth::new(1).query()
+        ..Berth::new(1, Two).query()
     }
 }
 
@@ -88,57 +89,78 @@ fn rows_with_a_gap() {
     assert_as_expected(&file_of(Two, &records), 64, "gaps");
 }
 
-#[test]
-fn coordinates_at_the_extremes() {
-    let mut rng = Rng::new(1, "extremes");
-    let record = |rng: &mut Rng| {
-        let mut point = || [0; 3].map(|_: i32| rng.pick(&[-1_048_576, 0, 1_048_576, 1_048_575]));
-        let [start, end] = [[(); 4].map(|()| point()), [(); 4].map(|()| point())];
-        let separations = [0; 3].map(|_: i32| rng.pick(&[0, 400, 65_536]));
-        let (kind, flags) = (rng.pick(&[VERTEX_FACE, EDGE_EDGE]), rng.pick(&[0, 1]));
-        let (tolerance, budget) = (rng.pick(&[16, 1_048_576]), rng.between(1, 300) as u32);
-        let sound = Berth::new(1).query();
-        Record { kind, flags, separations, tolerance, budget, start, end, ..sound }
-    };
-    let records: Vec<Record> = (0..500).map(|_| record(&mut rng)).collect();
-    assert_as_expected(&file_of(Two, &records), 256, "extremes");
+/// A record with coordinates at the ends of its edition's range, and tolerances too.
+fn extreme(rng: &mut Rng, edition: Edition) -> Record {
+    let Range { most_coordinate: most, least_tolerance: least, .. } = edition.range();
+    let mut point = || [0; 3].map(|_: i32| rng.pick(&[-most, 0, most, most - 1]));
+    let [start, end] = [[(); 4].map(|()| point()), [(); 4].map(|()| point())];
+    let separations = [0; 3].map(|_: i32| rng.pick(&[0, 400, 65_536]));
+    let (kind, flags) = (rng.pick(&[VERTEX_FACE, EDGE_EDGE]), rng.pick(&[0, 1]));
+    let (tolerance, budget) = (rng.pick(&[least, 1_048_576]), rng.between(1, 300) as u32);
+    let sound = Berth::new(1, edition).query();
+    Record { kind, flags, separations, tolerance, budget, start, end, ..sound }
 }
 
-fn sample(seed: u64, number: usize) -> Vec<Record> {
-    let mut berth = Berth::new(seed);
-    (0..number).map(|_| berth.query()).collect()
+#[test]
+fn coordinates_at_the_extremes() {
+    for edition in [Two, Three] {
+        let mut rng = Rng::new(1, "extremes");
+        let records: Vec<Record> = (0..500).map(|_| extreme(&mut rng, edition)).collect();
+        assert_as_expected(&file_of(edition, &records), 256, "extremes");
+    }
+}
+
+/// Queries of a berth, and their file.
+fn sample(seed: u64, edition: Edition, number: usize) -> (Vec<Record>, Vec<u8>) {
+    let mut berth = Berth::new(seed, edition);
+    let records: Vec<Record> = (0..number).map(|_| berth.query()).collect();
+    let file = file_of(edition, &records);
+    (records, file)
 }
 
 #[test]
 fn berth_brings_clear_met_and_spent_and_mostly_level_0() {
-    let records = sample(1, 4096);
-    let (code, told, _) = by_hand::<Fast>(&file_of(One, &records), 4096);
-    let number = |word: u32| told.chunks(8).filter(|told| told[1] == word).count();
-    let level_0 = told.chunks(8).filter(|told| told[6] == 1).count();
-    assert_eq!((code, number(0)), (0, 0));
-    assert!(number(1) > 0 && number(2) > 3000 && number(3) > 0);
-    assert!(level_0 > 3000 && level_0 < 4096, "{level_0}");
-    assert_eq!(sample(1, 5), sample(1, 5));
-    assert_ne!(sample(1, 5), sample(2, 5));
+    for edition in [One, Three] {
+        let (code, told, _) = by_hand::<Fast>(&sample(1, edition, 4096).1, 4096);
+        let number = |word: u32| told.chunks(8).filter(|told| told[1] == word).count();
+        let level_0 = told.chunks(8).filter(|told| told[6] == 1).count();
+        assert_eq!((code, number(0)), (0, 0));
+        assert!(number(1) > 0 && number(2) > 3000 && number(3) > 0);
+        assert!(level_0 > 3000 && level_0 < 4096, "{level_0}");
+        assert_eq!(sample(1, edition, 5), sample(1, edition, 5));
+        assert_ne!(sample(1, edition, 5), sample(2, edition, 5));
+    }
+}
+
+#[test]
+fn berth_of_edition_3_lies_beyond_the_shorter_range() {
+    let (longer, _) = sample(1, Three, 4096);
+    let (_, told, _) = by_hand::<Fast>(&file_of(Two, &longer), 4096);
+    assert!(told.chunks(8).all(|told| told[7] == 3));
 }
 
 #[test]
 fn the_same_ideas_leave_a_queue_of_zeros() {
-    let file = file_of(One, &sample(1, 4096));
+    let (_, file) = sample(1, One, 4096);
     for (query, words) in records::<ONE>(&file, 0, 4096).zip([4096, 65, 16].into_iter().cycle()) {
         let mut queue = vec![0; words];
-        Same::search(&Asked::of(&query), &mut queue);
+        Same::search(&Asked::of(&query, One.range().deepest), &mut queue);
         assert!(queue == vec![0; words]);
     }
 }
 
 #[test]
 fn floats_find_what_the_exact_search_finds() {
-    let file = file_of(One, &sample(1, 4096));
+    floats_find::<ONE>(One);
+    floats_find::<TWO>(Three);
+}
+
+fn floats_find<const SIZE: usize>(edition: Edition) {
+    let (_, file) = sample(1, edition, 4096);
     let (_, told, _) = by_hand::<Fast>(&file, 4096);
     let mut heap = BinaryHeap::new();
     let (mut decided, mut alike) = (0, 0);
-    for (query, told) in queries(&file).zip(told.chunks(8)) {
+    for (query, told) in queries::<SIZE>(&file).zip(told.chunks(8)) {
         let Found { time, checks } = query.solve(&mut heap);
         assert!(checks >= 1);
         if told[1] == 1 || told[1] == 2 {
@@ -160,7 +182,8 @@ fn walked<W: Way>(bodies: &Bodies, words: usize) -> (u32, [u32; 8], Vec<u64>) {
 #[test]
 fn walks_by_hand_answer_as_the_second_program() {
     let small = second::gen::bodies::flavours().into_iter();
-    let small: Vec<&str> = small.filter(|name| *name != second::gen::bodies::LARGE).collect();
+    let is_large = |name: &&str| second::gen::bodies::LARGE.contains(name);
+    let small: Vec<&str> = small.filter(|name| !is_large(name)).collect();
     for (seed, flavour) in (1..30).flat_map(|seed| small.iter().map(move |name| (seed, name))) {
         let case = bodies::Case::new(seed, flavour).unwrap();
         for words in case.words {
@@ -183,20 +206,31 @@ fn walks_by_hand_answer_as_the_second_program() {
 #[test]
 fn bodies_of_the_bench_are_far_apart_near_and_touching() {
     let queries = 256 * 256 * 15;
-    assert_eq!(Class::all(1)[0].bodies(16).b.count, 16);
-    let [far, near, touching] = Class::all(1).map(|class| {
-        let (code, told, _) = walked::<Fast>(&class.bodies(256), 4096);
-        assert_eq!((code, told[7]), (0, 0), "{}", class.name);
-        (told[0], told[6])
-    });
-    assert_eq!(far, (2, queries));
-    assert!(near.0 == 2 && near.1 > queries + queries / 10, "{near:?}");
-    assert!(touching.0 != 2 && touching.1 > queries + queries / 4, "{touching:?}");
+    assert_eq!(Class::all(1, Two)[0].bodies(16).b.count, 16);
+    for edition in [Two, Three] {
+        let [far, near, touching] = Class::all(1, edition).map(|class| {
+            let bodies = class.bodies(256);
+            let (code, told, _) = walked::<Fast>(&bodies, 4096);
+            assert_eq!((bodies.edition, code, told[7]), (edition.number(), 0, 0), "{}", class.name);
+            (told[0], told[6])
+        });
+        assert_eq!(far, (2, queries));
+        assert!(near.0 == 2 && near.1 > queries + queries / 10, "{near:?}");
+        assert!(touching.0 != 2 && touching.1 > queries + queries / 4, "{touching:?}");
+    }
+}
+
+#[test]
+fn bodies_of_edition_3_lie_beyond_the_shorter_range() {
+    for class in Class::all(1, Three) {
+        let bodies = Bodies { edition: 2, ..class.bodies(256) };
+        assert_eq!(walked::<Fast>(&bodies, 4096).0, 3, "{}", class.name);
+    }
 }
 
 #[test]
 fn deeper_queries_by_their_boxes() {
-    let Corpus { classes, by_size, .. } = Corpus::new(SEED);
+    let Corpus { classes, by_size, .. } = Corpus::new(SEED, One);
     let boxes = |class: &corpus::Class| -> Vec<u32> {
         let (_, told, _) = by_hand::<Fast>(&class.file, 4096);
         told.chunks(8).map(|told| told[6]).collect()

@@ -5,7 +5,7 @@ mod common;
 use common::*;
 use second::record::Record;
 use second::refusals::Refusal;
-use second::search::{search, Answer};
+use second::search::Answer;
 
 #[test]
 fn point_falls_through_the_face() {
@@ -26,9 +26,9 @@ fn budget_ends_with_the_recorded_corner() {
 #[test]
 fn queue_too_small_for_the_next_level() {
     let case = first_case();
-    assert_eq!(search(&case, 2), room([0, 0, 0, 1000, 1]));
-    assert_eq!(search(&case, 7), room([0, 0, 0, 1000, 3]));
-    assert_eq!(search(&case, 8), met([262144, 0, 0, 500, 5]));
+    assert_eq!(ask_with(case, 2), room([0, 0, 0, 1000, 1]));
+    assert_eq!(ask_with(case, 7), room([0, 0, 0, 1000, 3]));
+    assert_eq!(ask_with(case, 8), met([262144, 0, 0, 500, 5]));
 }
 
 #[test]

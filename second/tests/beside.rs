@@ -2,53 +2,53 @@
 
 mod stub;
 
-use second::beside::{compare, process, report, tally::Tally, walk::Walk, Case};
+use second::beside::{compare, process, report, tally::Tally, walk::Walk, Case, Library};
 use second::gen::flavours;
 use std::fs;
 use std::path::PathBuf;
 use std::time::Duration;
-use stub::{library, Fault, FAULTS};
+use stub::{library, ranged_library, ranges, Fault, FAULTS};
 
 const SEEDS: std::ops::Range<u64> = 1..3;
 
 /// The flavours whose files are quick.
 fn cases() -> Vec<Case> {
-    let quick =
-        flavours().into_iter().filter(|name| !["many", "many2", "queue", "queue2"].contains(name));
+    let quick = flavours()
+        .into_iter()
+        .filter(|name| !name.starts_with("many") && !name.starts_with("queue"));
     let quick: Vec<&str> = quick.collect();
-    SEEDS.flat_map(|seed| quick.iter().map(move |name| Case::new(seed, name).unwrap())).collect()
+    let all = SEEDS.flat_map(|seed| quick.iter().map(move |name| Case::new(seed, name).unwrap()));
+    // A wrong edition is seldom.
+    all.chain((3..15).map(|seed| Case::new(seed, "damaged3").unwrap())).collect()
 }
 
 /// True where some case differs.
-fn reported<const N: usize>(cases: &[Case]) -> bool {
+fn reported(library: Library, cases: &[Case]) -> bool {
     let mut tally = Tally::default();
-    cases.iter().any(|case| !compare(&library::<N>(), case, &mut tally).is_empty())
+    cases.iter().any(|case| !compare(&library, case, &mut tally).is_empty())
+}
+
+macro_rules! each {
+    ($library:ident, $cases:expr, $($n:literal)*) => { [$(reported($library::<$n>(), $cases)),*] };
 }
 
 #[test]
 fn right_library_passes_and_wrong_ones_are_reported() {
     let cases = cases();
-    let found = [
-        reported::<0>(&cases),
-        reported::<1>(&cases),
-        reported::<2>(&cases),
-        reported::<3>(&cases),
-        reported::<4>(&cases),
-        reported::<5>(&cases),
-        reported::<6>(&cases),
-        reported::<7>(&cases),
-        reported::<8>(&cases),
-        reported::<9>(&cases),
-        reported::<10>(&cases),
-        reported::<11>(&cases),
-        reported::<12>(&cases),
-        reported::<13>(&cases),
-        reported::<14>(&cases),
-        reported::<15>(&cases),
-        reported::<16>(&cases),
-    ];
+    let found = each!(library, &cases, 0 1 2 3 4 5 6 7 8 9 10 11 12 13 14 15 16 17 18 19 20);
+    assert_eq!(found.len(), FAULTS.len());
     for (fault, reported) in FAULTS.iter().zip(found) {
         assert_eq!(reported, *fault != Fault::None, "{fault:?}");
+    }
+}
+
+#[test]
+fn wrong_ranges_are_reported() {
+    let cases = cases();
+    let found = each!(ranged_library, &cases, 0 1 2 3 4 5 6 7 8 9 10 11 12);
+    assert_eq!(found.len(), ranges::FAULTS.len());
+    for (fault, reported) in ranges::FAULTS.iter().zip(found) {
+        assert_eq!(reported, *fault != ranges::Fault::None, "{fault:?}");
     }
 }
 
@@ -74,12 +74,37 @@ fn tally_counts_the_queries_of_each_edition() {
         assert_eq!(process::compare(&sweep, &case, &mut program), Vec::<String>::new());
         [calls, program].map(|tally| tally.to_string())
     };
-    for text in counted("tiny") {
-        assert!(!text.contains("(edition 1: 0,") && text.contains(", edition 2: 0)"), "{text}");
+    let some = |text: &str| [1, 2, 3].map(|n| !text.contains(&format!("edition {n}: 0")));
+    for (edition, flavour) in (1..).zip(["tiny", "tiny2", "tiny3"]) {
+        let [calls, program] = counted(flavour);
+        assert_eq!(some(&program), [1, 2, 3].map(|n| n == edition), "{program}");
+        // In process editions 2 and 3 are each other's twins.
+        assert_eq!(some(&calls), [1, 2, 3].map(|n| (n == 1) == (edition == 1)), "{calls}");
     }
-    for text in counted("tiny2") {
-        assert!(text.contains("(edition 1: 0,") && !text.contains(", edition 2: 0)"), "{text}");
+}
+
+#[test]
+fn twin_has_the_same_records_in_the_other_range() {
+    assert!(Case::new(1, "tiny").unwrap().twin().is_none());
+    for (flavour, edition) in [("tiny2", 3), ("leading2", 3), ("tiny3", 2)] {
+        let case = Case::new(1, flavour).unwrap();
+        let twin = case.twin().unwrap();
+        assert_eq!((twin.edition().number(), twin.file.len()), (edition, case.file.len()));
+        let differs = |at: &usize| case.file[*at] != twin.file[*at];
+        let place = case.file.len() - 12;
+        assert_eq!((0..case.file.len()).filter(differs).collect::<Vec<_>>(), [place]);
+        assert_eq!(twin.twin().unwrap().file, case.file);
     }
+}
+
+#[test]
+fn a_twin_that_differs_is_reported() {
+    // Wrong in edition 3 alone, which no case here is of.
+    let case = Case::new(1, "tiny2").unwrap();
+    let found = compare(&ranged_library::<1>(), &case, &mut Tally::default());
+    let of_answers = |line: &&String| line.contains("taperhive_answers");
+    assert!(found.iter().filter(of_answers).count() > 0, "{found:?}");
+    assert!(found.iter().filter(of_answers).all(|line| line.starts_with("as edition 3: ")));
 }
 
 /// The second program as a program, called so.

@@ -4,14 +4,24 @@ mod stub;
 
 use second::beside::bodies::{compare_with, tally::Tally, Case};
 use second::beside::walk::Walk;
+use second::beside::Library;
 use second::bodies::{answer, walk, Bodies, BodiesAnswer};
 use second::gen::bodies::{flavours, LARGE};
 use std::fs;
 use stub::bodies::{Fault, CROWD, FAULTS};
-use stub::{bodies_library, crowded_library, library};
+use stub::{bodies_library, crowded_library, library, ranged_library, ranges};
 
 /// Flavours that are mostly refused, and so are quick.
-const REFUSED: [&str; 3] = ["bodies-refusals", "bodies-lengths", "bodies-counts"];
+const REFUSED: [&str; 8] = [
+    "bodies-refusals",
+    "bodies-refusals3",
+    "bodies-lengths",
+    "bodies-lengths3",
+    "bodies-counts",
+    "bodies-counts3",
+    "bodies-editions",
+    "bodies-editions3",
+];
 
 /// A case and its right answers, one for each of its queue lengths.
 struct Solved {
@@ -28,44 +38,57 @@ fn solved(seed: u64, flavour: &str) -> Solved {
 /// Many cases that are mostly refused, then some of every other flavour of few triangles.
 fn cases() -> Vec<Solved> {
     let refused = (1..60).flat_map(|seed| REFUSED.map(|flavour| solved(seed, flavour)));
-    let others = flavours().into_iter().filter(|name| *name != LARGE && !REFUSED.contains(name));
-    let others: Vec<&str> = others.collect();
+    let mut others = flavours();
+    others.retain(|name| !LARGE.contains(name) && !REFUSED.contains(name));
     let all = (1..6).flat_map(|seed| others.iter().map(move |flavour| solved(seed, flavour)));
     refused.chain(all).collect()
 }
 
-/// What differs with fault N.
-fn differences<const N: usize>(solved: &Solved, tally: &mut Tally) -> Vec<String> {
+/// What differs by a library.
+fn differences(library: &Library, solved: &Solved, tally: &mut Tally) -> Vec<String> {
     let Solved { case, answers } = solved;
     let right = |_: &Bodies, words: usize| {
         answers[case.words.iter().position(|tried| *tried == words).unwrap()]
     };
-    compare_with(&bodies_library::<N>(), case, tally, right)
+    compare_with(library, case, tally, right)
 }
 
 /// So many differing cases are no luck.
 const ENOUGH: usize = 2;
 
 /// How many of the cases differ; no more than enough are looked for.
-fn reported<const N: usize>(cases: &[Solved]) -> usize {
-    let differs = |case: &&Solved| !differences::<N>(case, &mut Tally::default()).is_empty();
+fn reported(library: Library, cases: &[Solved]) -> usize {
+    let differs = |case: &&Solved| !differences(&library, case, &mut Tally::default()).is_empty();
     cases.iter().filter(differs).take(ENOUGH).count()
 }
 
 macro_rules! each {
-    ($cases:expr, $($n:literal)*) => { [$(reported::<$n>($cases)),*] };
+    ($library:ident, $cases:expr, $($n:literal)*) => { [$(reported($library::<$n>(), $cases)),*] };
 }
 
 #[test]
 fn right_library_passes_and_wrong_ones_are_reported() {
     let cases = cases();
-    let found = each!(&cases,
-        0 1 2 3 4 5 6 7 8 9 10 11 12 13 14 15 16 17 18 19 20 21 22 23 24 25 26 27 28 29 30 31 32 33 34 35 36 37 38);
+    let found = each!(bodies_library, &cases,
+        0 1 2 3 4 5 6 7 8 9 10 11 12 13 14 15 16 17 18 19 20 21 22 23 24 25 26 27 28 29 30 31 32 33 34 35 36 37 38
+        39 40 41 42 43 44 45 46 47);
     assert_eq!(found.len(), FAULTS.len());
     for (fault, number) in FAULTS.iter().zip(found) {
         // No search of a few thousand queries comes to a sum of more than 32 bits.
         let unseen = [Fault::None, Fault::SumCutTo32Bits].contains(fault);
         assert_eq!(number, if unseen { 0 } else { ENOUGH }, "{fault:?}");
+    }
+}
+
+#[test]
+fn wrong_ranges_are_reported() {
+    let deep =
+        (6..12).flat_map(|seed| ["bodies-deep", "bodies-deep3"].map(|name| solved(seed, name)));
+    let cases: Vec<Solved> = deep.chain(cases()).collect();
+    let found = each!(ranged_library, &cases, 0 1 2 3 4 5 6 7 8 9 10 11 12);
+    assert_eq!(found.len(), ranges::FAULTS.len());
+    for (fault, number) in ranges::FAULTS.iter().zip(found) {
+        assert_eq!(number, if *fault == ranges::Fault::None { 0 } else { ENOUGH }, "{fault:?}");
     }
 }
 
@@ -90,14 +113,15 @@ fn sum_cut_to_32_bits_is_reported() {
 fn tally_counts_what_was_compared() {
     let mut tally = Tally::default();
     for case in cases().iter() {
-        assert_eq!(differences::<0>(case, &mut tally), Vec::<String>::new());
+        assert_eq!(differences(&library::<0>(), case, &mut tally), Vec::<String>::new());
     }
     let text = tally.to_string();
-    for number in [3, 4, 5, 6, 7, 14, 21] {
+    for number in [3, 4, 5, 6, 7, 10, 14, 21] {
         assert!(text.contains(&format!(" {number}: ")), "{text}");
     }
-    for nothing in [" MET 0 ", " CLEAR 0 ", " SPENT 0 ", " ROOM 0 "] {
-        assert!(!text.contains(nothing), "{text}");
+    let calls = ["edition 1: 0,", "edition 2: 0,", "edition 3: 0,", "none: 0)"];
+    for nothing in [" MET 0 ", " CLEAR 0 ", " SPENT 0 ", " ROOM 0 "].iter().chain(&calls) {
+        assert!(!text.contains(*nothing), "{text}");
     }
     assert!(text.contains(" queries, ") && text.ends_with("; 0 cases differ"), "{text}");
 }

@@ -3,7 +3,7 @@
 mod common;
 
 use common::*;
-use second::edition::Edition::One;
+use second::edition::Edition::{One, Three};
 use second::file::file_of;
 use second::record::Record;
 use std::io::Write;
@@ -95,6 +95,26 @@ fn why_rounds_down_and_names_sides_and_axes() {
 }
 
 #[test]
+fn edition_3_is_swept_and_asked() {
+    let still = [[0, -100, 0], [0, 100, 0]];
+    let case = ee(
+        [[-100, 0, 100], [100, 0, 100], still[0], still[1]],
+        [[-100, 0, -100], [100, 0, -100], still[0], still[1]],
+    );
+    let file = file_of(Three, &[Record { tolerance: 64, ..case }, Record { id: 2, ..case }]);
+    let swept = "\
+1 MET 262144 262144 262144 50 49
+2 REFUSED 5
+TOTAL 2 MET 1 CLEAR 0 SPENT 0 ROOM 0 FLOOR 0 REFUSED 1
+";
+    assert_eq!(call(&["sweep"], &file).unwrap(), swept);
+    let line = "RULED OUT on z, first body on the + side: t 0 to 262144, u 524288 to 1048576, v 0 to 524288 \
+                (0.00 % to 25.00 %, 50.00 % to 100.00 %, 0.00 % to 50.00 %); level 4, depths 2 1 1, box 0 1 0\n";
+    assert_eq!(call(&["why", "0", "200001", "1048576", "0"], &file).unwrap(), line);
+    assert_eq!(call(&["why", "1", "1", "0", "0"], &file).unwrap(), "REFUSED 5\n");
+}
+
+#[test]
 fn why_refuses_files_and_records() {
     let why = |n: &str, input: &[u8]| call(&["why", n, "0", "0", "4294967295"], input).unwrap();
     assert_eq!(why("0", &[]), "FILE 8\n");
@@ -123,15 +143,23 @@ fn generators_print() {
     let names = call(&["flavours"], &[]).unwrap();
     assert_eq!(names.lines().collect::<Vec<_>>(), second::gen::flavours());
     assert_eq!(call(&["queries", "4", "3"], &[]).unwrap().lines().count(), 3);
+    assert_eq!(call(&["queries", "4", "5", "3"], &[]).unwrap().lines().count(), 5);
     assert!(call(&["words", "4", "empty"], &[]).unwrap().starts_with("0 1 2 3 "));
-    let file = call(&["gen", "4", "tiny"], &[]).unwrap();
-    assert!(file.contains("QEND"));
+    for (flavour, trailer) in [("tiny", "QEND\x01"), ("tiny3", "QEND\x03")] {
+        assert!(call(&["gen", "4", flavour], &[]).unwrap().contains(trailer));
+    }
 }
 
 #[test]
 fn unknown_commands_fail() {
-    for arguments in [&[][..], &["swept"], &["sweep", "x"], &["gen", "1", "none"], &["words", "1"]]
-    {
+    for arguments in [
+        &[][..],
+        &["swept"],
+        &["sweep", "x"],
+        &["gen", "1", "none"],
+        &["words", "1"],
+        &["queries", "1", "1", "1"],
+    ] {
         assert_eq!(call(arguments, &[]), None);
     }
     for numbers in [["0", "0", "0", "-1"], ["0", "x", "0", "0"], ["", "0", "0", "0"]] {

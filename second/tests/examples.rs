@@ -47,7 +47,16 @@ fn edition_2_is_said_before_the_records() {
     assert_eq!(write(&two), Err(1));
     assert_eq!(write(&format!("edition 2\n{one}")), Err(2));
     assert_eq!(write(&format!("{one}edition 2\n")), Err(2));
-    assert_eq!(write("edition 3\n"), Err(1));
+    assert_eq!(["edition 4\n", "edition\n", "edition 2 3\n"].map(write), [Err(1), Err(1), Err(1)]);
+}
+
+#[test]
+fn edition_3_is_said_as_edition_2_is() {
+    let [two, three] = [2, 3]
+        .map(|n| second::script::write(&format!("edition {n}\n{}", line("1 0 7 5 6 7 64 9"))));
+    let (two, three) = (two.expect("a file"), three.expect("a file"));
+    assert_eq!(two[..128], three[..128]);
+    assert_eq!(three[128..], second::file::trailer(second::edition::Edition::Three, 128, 1));
 }
 
 /// What sweep prints of an example.
@@ -134,6 +143,7 @@ fn the_gangway_of_the_c_example_is_answered_as_it_prints() {
     );
     let (b_start, b_end) = (hull(0), hull(METRE / 2));
     let bodies = Bodies {
+        edition: 2,
         a: Body { count: 12, start: &a_start, end: &a_end },
         b: Body { count: 4, start: &b_start, end: &b_end },
         separations: [80, 80, 400],

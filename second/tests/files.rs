@@ -80,10 +80,10 @@ fn short_mark_and_edition() {
         for flip in 1..=255 {
             let mut bytes = whole.clone();
             bytes[at + place] ^= flip;
-            // The byte 2 is edition 2's, whose records are longer.
+            // The bytes 2 and 3 are those of editions whose records are longer.
             let expected = match (place, bytes[at + place]) {
                 (0..=3, _) => Refusal::Mark,
-                (4, 2) => Refusal::Back,
+                (4, 2 | 3) => Refusal::Back,
                 _ => Refusal::Edition,
             };
             assert_eq!(open(&bytes), Err(expected));

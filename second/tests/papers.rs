@@ -3,8 +3,9 @@
 mod common;
 
 use common::*;
+use second::edition::Range;
 use second::record::Record;
-use second::search::{search, search_traced};
+use second::search::search_traced;
 
 const MOST_WORDS: usize = 1 << 20;
 
@@ -20,7 +21,7 @@ fn s01_hourglass() {
     assert_eq!(ask(apart), spent([929792, 90112, 94208, 37, 1000]));
     let patient = Record { budget: 1_000_000, ..apart };
     assert_eq!(ask(patient), room([931840, 90112, 110592, 19, 4585]));
-    assert_eq!(search(&patient, MOST_WORDS), met([932864, 91136, 111616, 10, 14823]));
+    assert_eq!(ask_with(patient, MOST_WORDS), met([932864, 91136, 111616, 10, 14823]));
 }
 
 #[test]
@@ -42,7 +43,7 @@ fn s03_coplanar() {
     );
     assert_eq!(ask(case), spent([229376, 1032192, 0, 157, 1000]));
     let patient = Record { budget: 1_000_000, ..case };
-    assert_eq!(search(&patient, MOST_WORDS), met([251904, 1047040, 0, 15, 12521]));
+    assert_eq!(ask_with(patient, MOST_WORDS), met([251904, 1047040, 0, 15, 12521]));
 }
 
 #[test]
@@ -115,10 +116,10 @@ fn s12_parallel_edges_meet_along_a_line() {
     );
     assert_eq!(ask(case), spent([507904, 0, 0, 32, 1000]));
     let longer = Record { budget: 4000, ..case };
-    assert_eq!(search(&longer, 2030), room([520192, 0, 0, 8, 3899]));
-    assert_eq!(search(&longer, 2032), met([520192, 0, 0, 8, 3900]));
+    assert_eq!(ask_with(longer, 2030), room([520192, 0, 0, 8, 3899]));
+    assert_eq!(ask_with(longer, 2032), met([520192, 0, 0, 8, 3900]));
     let apart = Record { separations: [100; 3], budget: 1_000_000, ..case };
-    let (answer, trace) = search_traced(&apart, MOST_WORDS);
+    let (answer, trace) = search_traced(&apart, Range::SHORTER, MOST_WORDS);
     assert_eq!(answer, met([471040, 0, 0, 2, 102524]));
     assert_eq!(trace.peak, 88088);
 }
@@ -194,7 +195,7 @@ fn s23_collapsing_face() {
 #[test]
 fn s24_tunnelling_at_full_range() {
     let case = falls([0, 0, M], [0, 0, -M], [[-M, -M, 0], [M, -M, 0], [-M, M, 0]]);
-    let (answer, trace) = search_traced(&case, 4096);
+    let (answer, trace) = search_traced(&case, Range::SHORTER, 4096);
     assert_eq!(answer, met([524280, 524280, 524280, 16, 707]));
     // 51 levels are checked to their end, each parameter split 17 times; the next one answers.
     assert_eq!(trace.level_ends.len(), 51);

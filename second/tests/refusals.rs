@@ -3,9 +3,10 @@
 mod common;
 
 use common::*;
+use second::edition::Range;
 use second::record::Record;
 use second::refusals::{check_record, Refusal};
-use second::search::{search, Answer};
+use second::search::Answer;
 
 /// A record and the refusal that it alone deserves.
 fn spoiled(number: u32) -> Record {
@@ -37,9 +38,9 @@ fn number(answer: Answer) -> u32 {
 fn each_alone() {
     for n in 1..=6 {
         assert_eq!(number(ask(spoiled(n))), n);
-        assert_eq!(check_record(&spoiled(n)).map_err(Refusal::number), Err(n));
+        assert_eq!(check_record(&spoiled(n), Range::SHORTER).map_err(Refusal::number), Err(n));
     }
-    assert_eq!(number(search(&first_case(), 1)), 7);
+    assert_eq!(number(ask_with(first_case(), 1)), 7);
 }
 
 #[test]
@@ -50,7 +51,7 @@ fn lowest_of_every_combination() {
             spoil(&mut record, n);
         }
         let words = if chosen >> 6 == 1 { 1_048_577 } else { 4096 };
-        assert_eq!(number(search(&record, words)), chosen.trailing_zeros() + 1);
+        assert_eq!(number(ask_with(record, words)), chosen.trailing_zeros() + 1);
     }
 }
 
@@ -98,6 +99,6 @@ fn ends_of_the_other_ranges() {
     }
     let lengths = [(0, 7), (1, 7), (2, 0), (3, 0), (1_048_576, 0), (1_048_577, 7), (usize::MAX, 7)];
     for (words, expected) in lengths {
-        assert_eq!(number(search(&first_case(), words)), expected);
+        assert_eq!(number(ask_with(first_case(), words)), expected);
     }
 }

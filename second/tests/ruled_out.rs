@@ -3,6 +3,7 @@
 mod common;
 
 use common::*;
+use second::edition::Range;
 use second::gap::{corners, Motion, Q};
 use second::record::Record;
 use second::refusals::Refusal;
@@ -13,9 +14,17 @@ use second::why::{Discarded, Parts, Searched, ONE, TOLD};
 
 const WORDS: usize = 4096;
 
+/// A search of edition 1 or 2.
+fn searched(record: &Record, words: usize) -> Result<Searched, Refusal> {
+    Searched::of(record, Range::SHORTER, words)
+}
+
 /// A record's answer, and at each of these points the box that rules it out or the refusal.
 fn check(record: Record, words: usize, answer: Answer, rows: &[(Parts, &str)]) {
-    let searched = Searched::of(&record, words).unwrap();
+    check_rows(&searched(&record, words).unwrap(), answer, rows);
+}
+
+fn check_rows(searched: &Searched, answer: Answer, rows: &[(Parts, &str)]) {
     assert_eq!(searched.answer, answer);
     for (point, said) in rows {
         let is = searched.why(*point).map_or_else(refused, |discarded| row(&discarded));
@@ -97,13 +106,18 @@ fn first_axis_that_misses_is_named_and_either_side() {
     check(below, WORDS, clear(1), &rows);
 }
 
-#[test]
-fn edges_have_no_long_side() {
+/// An edge falls across another.
+fn crossing() -> Record {
     let still = [[0, -100, 0], [0, 100, 0]];
-    let case = ee(
+    ee(
         [[-100, 0, 100], [100, 0, 100], still[0], still[1]],
         [[-100, 0, -100], [100, 0, -100], still[0], still[1]],
-    );
+    )
+}
+
+#[test]
+fn edges_have_no_long_side() {
+    let case = crossing();
     let rows = [
         ([262144, 524288, 524288], "level 7 depths 3 2 2 box 2 2 2 axis z side +"),
         ([393215, 1048576, 0], "level 5 depths 2 2 1 box 1 3 0 axis x side +"),
@@ -111,8 +125,38 @@ fn edges_have_no_long_side() {
         ([0, 1048577, 0], "REFUSED 23"),
     ];
     check(case, WORDS, met([458752, 458752, 458752, 13, 145]), &rows);
-    let searched = Searched::of(&case, WORDS).unwrap();
-    assert!(searched.why([0, ONE, ONE]).is_ok());
+    assert!(searched(&case, WORDS).unwrap().why([0, ONE, ONE]).is_ok());
+}
+
+#[test]
+fn edges_of_edition_3_at_odd_parts() {
+    let rows = [
+        ([1, 0, 0], "level 4 depths 2 1 1 box 0 0 0 axis z side +"),
+        ([262143, 1048576, 1048576], "level 4 depths 2 1 1 box 0 1 1 axis z side +"),
+        ([200001, 1048576, 0], "level 4 depths 2 1 1 box 0 1 0 axis z side +"),
+        ([262144, 0, 0], "REFUSED 24"),
+        ([262145, 1048575, 1], "REFUSED 24"),
+        ([1, 1048577, 0], "REFUSED 23"),
+    ];
+    let case = Record { tolerance: 64, ..crossing() };
+    let searched = Searched::of(&case, Range::LONGER, WORDS).unwrap();
+    check_rows(&searched, met([262144, 262144, 262144, 50, 49]), &rows);
+    let close = Record { tolerance: 63, ..case };
+    assert_eq!(Searched::of(&close, Range::LONGER, WORDS).err(), Some(Refusal::Tolerance));
+}
+
+// u + v is odd where one of them is; a sum of halves would let two odd ones pass.
+#[test]
+fn face_of_edition_3_at_odd_parts() {
+    let rows = [
+        ([262143, 524287, 524289], "level 2 depths 2 0 0 box 0 0 0 axis z side +"),
+        ([1, 524289, 524288], "REFUSED 23"),
+        ([1, 524289, 524289], "REFUSED 23"),
+        ([1048577, 0, 0], "REFUSED 23"),
+        ([262144, 1, 0], "REFUSED 24"),
+    ];
+    let searched = Searched::of(&first_case(), Range::LONGER, WORDS).unwrap();
+    check_rows(&searched, met([262144, 0, 0, 500, 5]), &rows);
 }
 
 #[test]
@@ -127,7 +171,7 @@ fn flag_turns_the_second_body_first() {
 #[test]
 fn refused_in_the_order_of_the_papers() {
     let number = |record: Record, words: usize, point: Parts, lent: usize| {
-        let told = Searched::of(&record, words).and_then(|searched| searched.tell(point, lent));
+        let told = searched(&record, words).and_then(|searched| searched.tell(point, lent));
         told.map_or_else(Refusal::number, |_| 0)
     };
     let (outside, late) = ([1048577, 0, 0], [262144, 0, 0]);
@@ -145,7 +189,7 @@ fn refused_in_the_order_of_the_papers() {
 #[test]
 #[should_panic(expected = "the search checked the box")]
 fn box_that_was_never_checked_is_not_named() {
-    let mut searched = Searched::of(&first_case(), WORDS).unwrap();
+    let mut searched = searched(&first_case(), WORDS).unwrap();
     assert!(searched.why([0; 3]).is_ok());
     searched.log[2].checked.remove(0);
     let _ = searched.why([0; 3]);
@@ -154,7 +198,7 @@ fn box_that_was_never_checked_is_not_named() {
 #[test]
 #[should_panic(expected = "the search discarded no box")]
 fn box_below_the_last_level_is_not_named() {
-    let mut searched = Searched::of(&first_case(), WORDS).unwrap();
+    let mut searched = searched(&first_case(), WORDS).unwrap();
     searched.log.truncate(2);
     let _ = searched.why([0; 3]);
 }
@@ -201,11 +245,10 @@ fn named_rightly(searched: &Searched, point: Parts, discarded: &Discarded) {
 fn named_boxes_hold_the_point_and_were_discarded_by_that_axis() {
     let mut rng = Rng::new(8, "ruled out");
     let mut named = 0;
-    for flavour in ["tiny", "full2", "degenerate2", "extreme", "budget2"] {
-        for record in files(flavour, 3).iter().flat_map(|file| records(file)) {
-            let Ok(searched) = Searched::of(&record, rng.pick(&[2, 7, 64, WORDS])) else {
-                continue;
-            };
+    for flavour in ["tiny", "full2", "degenerate2", "extreme", "budget2", "full3", "deep3"] {
+        for (record, range) in files(flavour, 3).iter().flat_map(|file| ranged(file)) {
+            let words = rng.pick(&[2, 7, 64, WORDS]);
+            let Ok(searched) = Searched::of(&record, range, words) else { continue };
             for _ in 0..20 {
                 let point = [(); 3].map(|()| rng.below(ONE as usize + 1) as u32);
                 if let Ok(discarded) = searched.why(point) {
@@ -220,8 +263,9 @@ fn named_boxes_hold_the_point_and_were_discarded_by_that_axis() {
 
 #[test]
 fn every_discarded_box_before_the_answered_time_is_named_by_its_low_corner() {
-    for record in files("mixed2", 6).iter().flat_map(|file| records(file)) {
-        let Ok(searched) = Searched::of(&record, WORDS) else { continue };
+    let files = ["mixed2", "mixed3", "deep3"].into_iter().flat_map(|name| files(name, 6));
+    for (record, range) in files.flat_map(|file| ranged(&file)) {
+        let Ok(searched) = Searched::of(&record, range, WORDS) else { continue };
         for (level, logged) in searched.log.iter().enumerate() {
             for checked in &logged.checked {
                 let low = [0, 1, 2].map(|n| checked.grid_box[n] * (ONE >> logged.depths[n]));

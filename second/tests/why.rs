@@ -3,16 +3,16 @@
 mod stub;
 
 use second::beside::why::{compare, program, tally::Tally};
-use second::beside::{walk::Walk, Case};
+use second::beside::{walk::Walk, Case, Library};
 use second::gen::flavours;
 use std::fs;
 use stub::why::{Fault, FAULTS};
-use stub::{library, why_library};
+use stub::{library, ranged_library, ranges, why_library};
 
 /// The flavours whose files are quick.
 fn cases() -> Vec<Case> {
-    let slow = ["many", "many2", "queue", "queue2"];
-    let quick: Vec<&str> = flavours().into_iter().filter(|name| !slow.contains(name)).collect();
+    let mut quick = flavours();
+    quick.retain(|name| !name.starts_with("many") && !name.starts_with("queue"));
     (1..4).flat_map(|seed| quick.iter().map(move |name| Case::new(seed, name).unwrap())).collect()
 }
 
@@ -20,25 +20,37 @@ fn cases() -> Vec<Case> {
 const ENOUGH: usize = 3;
 
 /// How many of the cases differ; no more than enough are looked for.
-fn reported<const N: usize>(cases: &[Case]) -> usize {
-    let differs =
-        |case: &&Case| !compare(&why_library::<N>(), case, &mut Tally::default()).is_empty();
+fn reported(library: Library, cases: &[Case]) -> usize {
+    let differs = |case: &&Case| !compare(&library, case, &mut Tally::default()).is_empty();
     cases.iter().filter(differs).take(ENOUGH).count()
 }
 
 macro_rules! each {
-    ($cases:expr, $($n:literal)*) => { [$(reported::<$n>($cases)),*] };
+    ($library:ident, $cases:expr, $($n:literal)*) => { [$(reported($library::<$n>(), $cases)),*] };
 }
 
 #[test]
 fn right_library_passes_and_wrong_ones_are_reported() {
     let cases = cases();
-    let found = each!(&cases,
+    let found = each!(why_library, &cases,
         0 1 2 3 4 5 6 7 8 9 10 11 12 13 14 15 16 17 18 19 20 21 22 23 24 25
-        26 27 28 29 30 31 32 33 34 35 36 37 38 39 40 41 42 43 44 45 46 47 48 49 50 51 52 53);
+        26 27 28 29 30 31 32 33 34 35 36 37 38 39 40 41 42 43 44 45 46 47 48 49 50 51 52 53
+        54 55 56 57 58);
     assert_eq!(found.len(), FAULTS.len());
     for (fault, number) in FAULTS.iter().zip(found) {
         assert_eq!(number, if *fault == Fault::None { 0 } else { ENOUGH }, "{fault:?}");
+    }
+}
+
+#[test]
+fn wrong_ranges_are_reported() {
+    let refused = |seed| ["refusals2", "refusals3"].map(|name| Case::new(seed, name).unwrap());
+    let refused = (4..12).flat_map(refused);
+    let cases: Vec<Case> = refused.chain(cases()).collect();
+    let found = each!(ranged_library, &cases, 0 1 2 3 4 5 6 7 8 9 10 11 12);
+    assert_eq!(found.len(), ranges::FAULTS.len());
+    for (fault, number) in ranges::FAULTS.iter().zip(found) {
+        assert_eq!(number, if *fault == ranges::Fault::None { 0 } else { ENOUGH }, "{fault:?}");
     }
 }
 

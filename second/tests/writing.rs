@@ -2,10 +2,10 @@
 
 mod stub;
 
-use second::beside::{compare, tally::Tally, writing, Case};
+use second::beside::{compare, tally::Tally, writing, Case, Library};
 use second::gen::{flavours, generate};
 use stub::writing::{Fault, FAULTS};
-use stub::{library, writing_library};
+use stub::{library, ranged_library, ranges, writing_library};
 
 /// A file alone: the writers need no queue.
 fn case(seed: u64, flavour: &'static str) -> Case {
@@ -27,24 +27,39 @@ fn differences<const N: usize>(case: &Case) -> Vec<String> {
 const ENOUGH: usize = 4;
 
 /// How many of the cases differ; no more than enough are looked for.
-fn reported<const N: usize>(cases: &[Case]) -> usize {
-    cases.iter().filter(|case| !differences::<N>(case).is_empty()).take(ENOUGH).count()
+fn reported(library: Library, cases: &[Case]) -> usize {
+    let differs =
+        |case: &&Case| !writing::compare(&library, case, &mut Tally::default()).is_empty();
+    cases.iter().filter(differs).take(ENOUGH).count()
 }
 
 macro_rules! each {
-    ($cases:expr, $($n:literal)*) => { [$(reported::<$n>($cases)),*] };
+    ($library:ident, $cases:expr, $($n:literal)*) => { [$(reported($library::<$n>(), $cases)),*] };
 }
 
 #[test]
 fn right_writers_pass_and_wrong_ones_are_reported() {
     let cases = cases();
-    let found = each!(&cases,
+    let found = each!(writing_library, &cases,
         0 1 2 3 4 5 6 7 8 9 10 11 12 13 14 15 16 17 18 19
-        20 21 22 23 24 25 26 27 28 29 30 31 32 33 34 35);
+        20 21 22 23 24 25 26 27 28 29 30 31 32 33 34 35 36 37 38 39 40 41);
     assert_eq!(found.len(), FAULTS.len());
     for (fault, number) in FAULTS.iter().zip(found) {
         let must = if *fault == Fault::None { 0 } else { ENOUGH };
         assert_eq!(number, must, "{fault:?}");
+    }
+}
+
+#[test]
+fn wrong_ranges_are_reported_but_for_depths_which_no_writer_has() {
+    let refused = (3..12).flat_map(|seed| ["refusals2", "refusals3"].map(|name| case(seed, name)));
+    let cases: Vec<Case> = refused.chain(cases()).collect();
+    let found = each!(ranged_library, &cases, 0 1 2 3 4 5 6 7 8 9 10 11 12);
+    assert_eq!(found.len(), ranges::FAULTS.len());
+    for (fault, number) in ranges::FAULTS.iter().zip(found) {
+        use ranges::Fault::{DeeperInThree, None, ShallowerInTwo};
+        let unseen = [None, DeeperInThree, ShallowerInTwo].contains(fault);
+        assert_eq!(number, if unseen { 0 } else { ENOUGH }, "{fault:?}");
     }
 }
 
@@ -78,14 +93,17 @@ fn files_written_must_read_as_the_records_copied() {
         let unread = "it does not read as the records copied";
         found.into_iter().filter(|line| line.ends_with(unread)).collect::<Vec<_>>()
     };
-    for flavour in ["tiny", "tiny2", "leading2"] {
+    for flavour in ["tiny", "tiny2", "leading2", "tiny3"] {
         let case = case(1, flavour);
         assert_eq!(unread(differences::<0>(&case)).len(), 0);
-        // Edition 2 alone has the wrong layout; both have the wrong trailer.
+        // Edition 1 alone has the right layout; all have the wrong trailer.
         let found = unread(differences::<9>(&case));
-        assert_eq!(found.len(), 1, "{flavour}");
-        assert!(found[0].starts_with("a file of edition 2 written from byte "), "{found:?}");
-        assert_eq!(unread(differences::<24>(&case)).len(), 2, "{flavour}");
+        assert_eq!(found.len(), 2, "{flavour}");
+        for (line, edition) in found.iter().zip([2, 3]) {
+            let begins = format!("a file of edition {edition} written from byte ");
+            assert!(line.starts_with(&begins), "{found:?}");
+        }
+        assert_eq!(unread(differences::<24>(&case)).len(), 3, "{flavour}");
     }
 }
 
@@ -100,9 +118,9 @@ fn tally_counts_copies_trailers_and_refusals() {
     for number in (1..=14).filter(|number| *number != 7) {
         assert!(text.contains(&format!(" {number}: ")), "{text}");
     }
-    let files = 2 * cases().len();
+    let files = 3 * cases().len();
     assert!(text.contains(&format!(" trailers, {files} files written; ")), "{text}");
     let copies = text.split(" copies, ").next().unwrap().rsplit(' ').next().unwrap();
     // The records of the largest files alone are as many.
-    assert!(copies.parse::<usize>().unwrap() > 4 * 2 * 4096, "{text}");
+    assert!(copies.parse::<usize>().unwrap() > 6 * 3 * 4096, "{text}");
 }

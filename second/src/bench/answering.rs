@@ -26,17 +26,17 @@ pub trait ByHand {
 }
 
 #[inline(always)]
-fn answer<S: ByHand>(query: &Query, queue: &mut [u64]) -> Answer {
+fn answer<S: ByHand>(query: &Query, deepest: u32, queue: &mut [u64]) -> Answer {
     if S::CUBE_FIRST && cube::misses(query.is_vertex_face(), &query.separations, query) {
         return [CLEAR, 0, 0, 0, 0, 1];
     }
-    prepared::<S>(query, queue)
+    prepared::<S>(query, deepest, queue)
 }
 
 /// By itself, so that level 0 has no share in what it needs.
 #[inline(never)]
-fn prepared<S: ByHand>(query: &Query, queue: &mut [u64]) -> Answer {
-    S::search(&Asked::of(query), queue)
+fn prepared<S: ByHand>(query: &Query, deepest: u32, queue: &mut [u64]) -> Answer {
+    S::search(&Asked::of(query, deepest), queue)
 }
 
 /// As `taperhive_answers`.
@@ -50,7 +50,7 @@ pub fn answers<S: ByHand>(file: &[u8], queue: &mut [u64], told: &mut [u32]) -> u
     }
     match opened.edition {
         Edition::One => all::<S, ONE>(file, opened, queue, told),
-        Edition::Two => all::<S, TWO>(file, opened, queue, told),
+        Edition::Two | Edition::Three => all::<S, TWO>(file, opened, queue, told),
     }
     0
 }
@@ -63,14 +63,14 @@ fn all<S: ByHand, const SIZE: usize>(
     told: &mut [u32],
 ) {
     let mut any_answered = false;
-    let is_no_queue = check_words(queue.len()).is_err();
+    let (range, is_no_queue) = (opened.edition.range(), check_words(queue.len()).is_err());
     let records = records::<SIZE>(file, opened.first, opened.count as usize);
     for (query, told) in records.zip(told.chunks_exact_mut(8)) {
-        let refusal = query.refusal(is_no_queue);
+        let refusal = query.refusal(&range, is_no_queue);
         let mut numbers = [query.id, 0, 0, 0, 0, 0, 0, refusal];
         if refusal == 0 {
             any_answered = true;
-            numbers[1..7].copy_from_slice(&answer::<S>(&query, queue));
+            numbers[1..7].copy_from_slice(&answer::<S>(&query, range.deepest, queue));
         }
         told.copy_from_slice(&numbers);
     }

@@ -1,5 +1,6 @@
 //! Queries of one berth: a box gangway over a ship's side and deck, sampled from pairs of near triangles.
 
+use crate::edition::{Edition, Range};
 use crate::record::{Point, Record, EDGE_EDGE, VERTEX_FACE};
 use crate::rng::Rng;
 
@@ -30,14 +31,18 @@ struct Step {
 /// An endless row of queries.
 pub struct Berth {
     rng: Rng,
+    least_tolerance: i32,
+    middle: i32,
     steps: Vec<Step>,
 }
 
 impl Berth {
-    pub fn new(seed: u64) -> Berth {
+    pub fn new(seed: u64, edition: Edition) -> Berth {
         let mut rng = Rng::new(seed, "berth");
         let steps = HEIGHTS.iter().map(|height| Step::new(&mut rng, *height)).collect();
-        Berth { rng, steps }
+        let range = edition.range();
+        let least_tolerance = range.least_tolerance as i32;
+        Berth { rng, least_tolerance, middle: middle(range), steps }
     }
 
     /// Triangles of the gangway and of the hull.
@@ -51,7 +56,8 @@ impl Berth {
         let (a, b) = self.rng.pick(&step.near);
         let (a, b) = (&step.gangway[a], &step.hull[b]);
         let query = self.rng.below(15);
-        let points = [0, 1].map(|end| points(query, &a[end], &b[end]));
+        let points = [0, 1]
+            .map(|end| points(query, &a[end], &b[end]).map(|[x, y, z]| [x + self.middle, y, z]));
         Record {
             kind: if query < 6 { VERTEX_FACE } else { EDGE_EDGE },
             flags: 0,
@@ -59,13 +65,18 @@ impl Berth {
             byte3: 0,
             id: self.rng.draw() as u32,
             separations: [self.rng.pick(&SEPARATIONS); 3],
-            tolerance: self.rng.between(16, 80) as u32,
+            tolerance: self.rng.between(self.least_tolerance, 5 * self.least_tolerance) as u32,
             budget: BUDGET,
             spare: 0,
             start: points[0],
             end: points[1],
         }
     }
+}
+
+/// Where what is measured lies along x: beyond all that the shorter range holds, where the range is the longer.
+pub fn middle(range: Range) -> i32 {
+    (range.most_coordinate - Range::SHORTER.most_coordinate) / 2 * 3
 }
 
 /// Queries 0 to 2: corners of a with face b; 3 to 5: corners of b with face a; then edges of a with edges of b.

@@ -32,37 +32,37 @@ pub struct Corpus {
 }
 
 impl Corpus {
-    pub fn new(seed: u64) -> Corpus {
-        let mut berth = Berth::new(seed);
+    pub fn new(seed: u64, edition: Edition) -> Corpus {
+        let mut berth = Berth::new(seed, edition);
         let (mut level_0, mut deeper) = (Vec::new(), Vec::new());
         let all: Vec<Record> = (0..RECORDS).map(|_| berth.query()).collect();
         while level_0.len() < RECORDS || deeper.len() < RECORDS {
             let record = berth.query();
-            let class = if boxes(&record) == 1 { &mut level_0 } else { &mut deeper };
+            let class = if boxes(&record, edition) == 1 { &mut level_0 } else { &mut deeper };
             if class.len() < RECORDS {
                 class.push(record);
             }
         }
         let by_size = SIZES.map(|size| {
-            let of_size = deeper.iter().filter(|record| size.contains(&boxes(record)));
+            let of_size = deeper.iter().filter(|record| size.contains(&boxes(record, edition)));
             let name = format!("{} to {} boxes", size.start(), size.end());
-            Class::new(&name, &of_size.copied().collect::<Vec<_>>())
+            Class::new(edition, &name, &of_size.copied().collect::<Vec<_>>())
         });
         let classes = [("as they come", all), ("level 0", level_0), ("deeper", deeper)]
-            .map(|(name, records)| Class::new(name, &records));
+            .map(|(name, records)| Class::new(edition, name, &records));
         Corpus { triangles: berth.triangles(), classes, by_size }
     }
 }
 
 impl Class {
-    fn new(name: &str, records: &[Record]) -> Class {
-        let file = file_of(Edition::One, records);
+    fn new(edition: Edition, name: &str, records: &[Record]) -> Class {
+        let file = file_of(edition, records);
         Class { name: name.to_string(), file, queries: records.len() }
     }
 }
 
-fn boxes(record: &Record) -> u32 {
+fn boxes(record: &Record, edition: Edition) -> u32 {
     let (mut queue, mut told) = (vec![0; QUEUE_WORDS], [0; 8]);
-    answers::<Fast>(&file_of(Edition::One, &[*record]), &mut queue, &mut told);
+    answers::<Fast>(&file_of(edition, &[*record]), &mut queue, &mut told);
     told[6]
 }

@@ -1,6 +1,6 @@
 //! Source document 004's method in f64, section 6 on top of Algorithm 2, for its time alone.
 
-use super::reading::{self, records, ONE};
+use super::reading::{self, records};
 use std::cmp::Ordering;
 use std::collections::BinaryHeap;
 
@@ -196,7 +196,7 @@ impl PartialEq for Interval {
 
 impl Eq for Interval {}
 
-/// The queries of an edition 1 file without leading bytes, one after the other.
-pub fn queries(file: &[u8]) -> impl Iterator<Item = Query> + '_ {
-    records::<ONE>(file, 0, file.len() / ONE).map(|query| Query::of(&query))
+/// The queries of a file without leading bytes, one after the other; SIZE is its edition's.
+pub fn queries<const SIZE: usize>(file: &[u8]) -> impl Iterator<Item = Query> + '_ {
+    records::<SIZE>(file, 0, file.len() / SIZE).map(|query| Query::of(&query))
 }

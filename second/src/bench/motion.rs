@@ -2,19 +2,17 @@
 
 use super::reading::Query;
 
-/// Parts of a parameter.
-pub const Q: i64 = 1 << 20;
-/// F times Q·Q is what is compared.
-pub const UNIT: i64 = 1 << 40;
-/// The deepest that a parameter is split.
-pub const DEEPEST: u32 = 20;
+/// What is told counts 1 over 2 to this, whatever the edition.
+const TOLD_DEPTH: u32 = 20;
 
 /// Of x, y, z, and of a fourth on which all is 0: four go at once where three would not.
 pub type Axes = [i64; 4];
 
-/// A query as a search by hand takes it.
+/// A query as a search by hand takes it. Q is 2 to its depth limit, so that F times Q·Q is whole and within i64 in every edition.
 pub struct Asked {
     pub is_vertex_face: bool,
+    /// The deepest that a parameter is split.
+    pub deepest: u32,
     /// A, B and C at the start and at the end.
     pub ends: [[Axes; 3]; 2],
     /// Times Q·Q, as the tolerance.
@@ -26,6 +24,7 @@ pub struct Asked {
 /// What a query asks beside its points.
 #[derive(Clone, Copy)]
 pub struct Terms {
+    pub deepest: u32,
     pub separations: [u32; 3],
     pub tolerance: u32,
     pub budget: u32,
@@ -47,35 +46,67 @@ pub trait Points {
 
 impl Asked {
     #[inline(always)]
-    pub fn of(query: &Query) -> Asked {
+    pub fn of(query: &Query, deepest: u32) -> Asked {
         let Query { separations, tolerance, budget, .. } = *query;
-        Asked::new(query.is_vertex_face(), &Terms { separations, tolerance, budget }, query)
+        let terms = Terms { deepest, separations, tolerance, budget };
+        Asked::new(query.is_vertex_face(), &terms, query)
     }
 
     #[inline(always)]
     pub fn new(is_vertex_face: bool, terms: &Terms, points: &impl Points) -> Asked {
+        let Terms { deepest, budget, .. } = *terms;
+        let scaled = |number: u32| i64::from(number) << (2 * deepest);
         let mut ends = [[[0; 4]; 3]; 2];
         let mut separations = [0; 4];
         for axis in 0..3 {
-            separations[axis] = i64::from(terms.separations[axis]) * UNIT;
+            separations[axis] = scaled(terms.separations[axis]);
             for (end, [a, b, c]) in ends.iter_mut().enumerate() {
                 let numbers = points.kernel(is_vertex_face, end, axis);
                 [a[axis], b[axis], c[axis]] = numbers.map(i64::from);
             }
         }
-        let tolerance = i64::from(terms.tolerance) * UNIT;
-        Asked { is_vertex_face, ends, separations, tolerance, budget: terms.budget }
+        let tolerance = scaled(terms.tolerance);
+        Asked { is_vertex_face, deepest, ends, separations, tolerance, budget }
+    }
+
+    /// A, B or C on an axis at t, times Q.
+    #[inline(always)]
+    pub fn at(&self, n: usize, axis: usize, t: i64) -> i64 {
+        let [start, end] = &self.ends;
+        (start[n][axis] << self.deepest) + t * (end[n][axis] - start[n][axis])
+    }
+
+    /// What is told of a place over Q: t, u, v and the excess there.
+    pub fn told(&self, place: [i64; 3]) -> [u32; 4] {
+        let [t, u, v] = place.map(|part| (part << (TOLD_DEPTH - self.deepest)) as u32);
+        [t, u, v, self.excess(place)]
     }
 
     /// The largest of |F| minus separation at a place, in whole units, rounded up; 0 if negative.
-    pub fn excess(&self, [t, u, v]: [i64; 3]) -> u32 {
-        let [start, end] = &self.ends;
+    fn excess(&self, [t, u, v]: [i64; 3]) -> u32 {
         let mut beyond = 0;
         for (axis, d) in self.separations.iter().enumerate() {
-            let [a, b, c] = [0, 1, 2].map(|n| between(start[n][axis], end[n][axis], t));
-            beyond = ((Q * a + u * b + v * c).abs() - d).max(beyond);
+            let [a, b, c] = [0, 1, 2].map(|n| self.at(n, axis, t));
+            beyond = (((a << self.deepest) + u * b + v * c).abs() - d).max(beyond);
         }
-        ((beyond + (UNIT - 1)) / UNIT) as u32
+        let unit = 1_i64 << (2 * self.deepest);
+        ((beyond + (unit - 1)) >> (2 * self.deepest)) as u32
+    }
+
+    /// The parameter that a level of these depths is split in.
+    pub fn parameter(&self, differences: &[i64; 3], depths: &[u32; 3]) -> usize {
+        let weight = |n: usize| match self.deepest - depths[n] {
+            0 => -1,
+            left => differences[n] << left,
+        };
+        let (t, u, v) = (weight(0), weight(1), weight(2));
+        if t >= u && t >= v {
+            0
+        } else if u >= v {
+            1
+        } else {
+            2
+        }
     }
 
     /// For t, u, v: the largest axis difference of F between the parameter's ends.
@@ -93,27 +124,5 @@ impl Asked {
             }
         }
         largest
-    }
-}
-
-/// What goes straight from the start to the end, at t, times Q.
-#[inline(always)]
-pub fn between(start: i64, end: i64, t: i64) -> i64 {
-    Q * start + t * (end - start)
-}
-
-/// The parameter that a level of these depths is split in.
-pub fn parameter(differences: &[i64; 3], depths: &[u32; 3]) -> usize {
-    let weight = |n: usize| match depths[n] {
-        DEEPEST => -1,
-        depth => differences[n] << (DEEPEST - depth),
-    };
-    let (t, u, v) = (weight(0), weight(1), weight(2));
-    if t >= u && t >= v {
-        0
-    } else if u >= v {
-        1
-    } else {
-        2
     }
 }

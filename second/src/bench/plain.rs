@@ -1,7 +1,7 @@
 //! An exact search written by hand as one writes it first: eight corners a box, axis by axis, left at the first that misses.
 
 use super::answering::{Answer, ByHand, CLEAR, FLOOR, MET, ROOM, SPENT};
-use super::motion::{between, parameter, Asked, DEEPEST, Q};
+use super::motion::Asked;
 use super::stored::{is_inside, INDEX, SHIFTS};
 
 /// A box's low and high t, u, v, over Q.
@@ -40,7 +40,7 @@ impl Search<'_> {
                 Err(word) => break word,
             };
             let differences = differences.get_or_insert_with(|| self.asked.differences());
-            let parameter = parameter(differences, &self.depths);
+            let parameter = self.asked.parameter(differences, &self.depths);
             self.depths[parameter] += 1;
             match self.split(parameter, &present[..survivors], next) {
                 None => break ROOM,
@@ -76,7 +76,7 @@ impl Search<'_> {
     fn ends(&self, word: u64) -> Ends {
         let mut ends = [[0; 2]; 3];
         for (n, ends) in ends.iter_mut().enumerate() {
-            let side = Q >> self.depths[n];
+            let side = 1 << (self.asked.deepest - self.depths[n]);
             let low = (word >> SHIFTS[n] & INDEX) as i64 * side;
             *ends = [low, low + side];
         }
@@ -102,11 +102,10 @@ impl Search<'_> {
     /// Least and greatest of F times Q·Q over a box's eight corners, on one axis.
     #[inline(always)]
     fn span(&self, axis: usize, [t, u, v]: &Ends) -> (i64, i64) {
-        let [start, end] = &self.asked.ends;
         let (mut least, mut greatest) = (i64::MAX, i64::MIN);
         for t in t {
-            let at = |n: usize| between(start[n][axis], end[n][axis], *t);
-            let (a, b, c) = (Q * at(0), at(1), at(2));
+            let at = |n: usize| self.asked.at(n, axis, *t);
+            let (a, b, c) = (at(0) << self.asked.deepest, at(1), at(2));
             for u in u {
                 for v in v {
                     let f = a + u * b + v * c;
@@ -119,14 +118,11 @@ impl Search<'_> {
     }
 
     fn record_first(&mut self, ends: &Ends, thin: bool) -> Result<(), u32> {
-        let low = ends.map(|ends| ends[0]);
-        let excess = self.asked.excess(low);
-        let [t, u, v] = low.map(|part| part as u32);
-        self.recorded = [t, u, v, excess];
-        if excess == 0 || thin {
+        self.recorded = self.asked.told(ends.map(|ends| ends[0]));
+        if self.recorded[3] == 0 || thin {
             return Err(MET);
         }
-        if self.depths == [DEEPEST; 3] {
+        if self.depths == [self.asked.deepest; 3] {
             return Err(FLOOR);
         }
         Ok(())

@@ -1,11 +1,11 @@
 //! Records read from their bytes in few instructions.
 
 use super::motion::Points;
+use crate::edition::Range;
 use crate::record::{word_at, EDGE_EDGE, VERTEX_FACE};
-use crate::refusals::{LEAST_TOLERANCE, MOST_BUDGET, MOST_COORDINATE};
-use crate::refusals::{MOST_SEPARATION, MOST_TOLERANCE};
+use crate::refusals::{MOST_BUDGET, MOST_SEPARATION, MOST_TOLERANCE};
 
-/// Bytes of a record of edition 1, and of edition 2.
+/// Bytes of a record of edition 1, and of editions 2 and 3.
 pub const ONE: usize = 116;
 pub const TWO: usize = 128;
 /// Bytes of its coordinates, which end it.
@@ -51,14 +51,14 @@ impl Query<'_> {
 
     /// Refusals 1 to 7, lowest first; 0 for none. 7 is known beforehand, as the queue is the same for all.
     #[inline(always)]
-    pub fn refusal(&self, is_no_queue: bool) -> u32 {
+    pub fn refusal(&self, range: &Range, is_no_queue: bool) -> u32 {
         let [flags, byte2, byte3] = self.flags;
         let refused = [
             self.kind != VERTEX_FACE && self.kind != EDGE_EDGE,
             u32::from(flags & 0xFE) | u32::from(byte2) | u32::from(byte3) | self.spare != 0,
-            self.has_outside(),
+            self.has_outside(range.most_coordinate as u32),
             self.separations.iter().any(|d| *d > MOST_SEPARATION),
-            !(LEAST_TOLERANCE..=MOST_TOLERANCE).contains(&self.tolerance),
+            !(range.least_tolerance..=MOST_TOLERANCE).contains(&self.tolerance),
             !(1..=MOST_BUDGET).contains(&self.budget),
             is_no_queue,
         ];
@@ -72,14 +72,14 @@ impl Query<'_> {
     }
 
     #[inline(always)]
-    fn has_outside(&self) -> bool {
+    fn has_outside(&self, most: u32) -> bool {
         // From the least allowed on, unsigned: one comparison for both sides, and one for all.
         let mut furthest = 0;
         for n in 0..COORDINATES / 4 {
             let coordinate = word_at(self.coordinates, 4 * n);
-            furthest = coordinate.wrapping_add(MOST_COORDINATE as u32).max(furthest);
+            furthest = coordinate.wrapping_add(most).max(furthest);
         }
-        furthest > 2 * MOST_COORDINATE as u32
+        furthest > 2 * most
     }
 }
 

@@ -1,24 +1,26 @@
 //! A box as it stands in a word of the queue.
 
 use super::answering::{Answer, CLEAR};
-use super::motion::{Asked, DEEPEST, Q};
+use super::motion::Asked;
 
 /// Where the t, u and v index stand.
 pub const SHIFTS: [u32; 3] = [40, 20, 0];
+/// Bits of an index: no edition goes deeper.
+const INDEX_BITS: u32 = 20;
 /// An index, before it is shifted.
-pub const INDEX: u64 = 0xF_FFFF;
+pub const INDEX: u64 = (1 << INDEX_BITS) - 1;
 
-/// The low t, u, v over Q.
+/// The low t, u, v over 2 to a depth that none of these exceeds.
 #[inline(always)]
-fn place(word: u64, depths: &[u32; 3]) -> [i64; 3] {
-    [0, 1, 2].map(|n| ((word >> SHIFTS[n] & INDEX) << (DEEPEST - depths[n])) as i64)
+fn place(word: u64, depths: &[u32; 3], depth: u32) -> [i64; 3] {
+    [0, 1, 2].map(|n| ((word >> SHIFTS[n] & INDEX) << (depth - depths[n])) as i64)
 }
 
 /// Of vertex-face only: whether some of the box has u + v up to 1.
 #[inline(always)]
 pub fn is_inside(word: u64, depths: &[u32; 3]) -> bool {
-    let [_, u, v] = place(word, depths);
-    u + v <= Q
+    let [_, u, v] = place(word, depths, INDEX_BITS);
+    u + v <= 1 << INDEX_BITS
 }
 
 /// A first survivor; what is told of it is worked out at the end.
@@ -37,8 +39,7 @@ impl Recorded {
         if word == CLEAR {
             return [CLEAR, 0, 0, 0, 0, count];
         }
-        let place = place(self.word, &self.depths);
-        let [t, u, v] = place.map(|part| part as u32);
-        [word, t, u, v, asked.excess(place), count]
+        let [t, u, v, excess] = asked.told(place(self.word, &self.depths, asked.deepest));
+        [word, t, u, v, excess, count]
     }
 }

@@ -22,9 +22,10 @@ impl Expected {
         let opened = open(file).map_err(|refusal| refusal.number());
         let records = opened.map(|opened| {
             let one = |n| {
-                let record = record_at(file, n).expect("n is below the count of an opened file");
+                let found = record_at(file, n);
+                let (record, range) = found.expect("n is below the count of an opened file");
                 let mut numbers = [record.id; TOLD];
-                numbers[1..].copy_from_slice(&told(&search(&record, words)));
+                numbers[1..].copy_from_slice(&told(&search(&record, range, words)));
                 numbers
             };
             (0..opened.count).map(one).collect()

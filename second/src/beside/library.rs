@@ -36,8 +36,9 @@ pub type Copied = unsafe extern "C" fn(*const u8, usize, usize, u8, *mut u8, usi
 /// Buffer, place, edition, count.
 pub type Trailer = unsafe extern "C" fn(*mut u8, usize, usize, u8, u32) -> u32;
 
-/// Separations, tolerance, budget; A's count, start, end; B's; queue; told.
+/// Edition; separations, tolerance, budget; A's count, start, end; B's; queue; told.
 pub type TwoBodies = unsafe extern "C" fn(
+    u8,
     u32,
     u32,
     u32,
@@ -123,10 +124,11 @@ impl Library {
     }
 
     pub fn bodies(&self, bodies: &Bodies, queue: &mut [u64], told: &mut [u32]) -> u32 {
-        let Bodies { a, b, separations: [x, y, z], tolerance, budget } = *bodies;
-        // Sound: as above; the counts may be any numbers.
+        let Bodies { edition, a, b, separations: [x, y, z], tolerance, budget } = *bodies;
+        // Sound: as above; edition and counts may be any numbers.
         unsafe {
             (self.bodies)(
+                edition,
                 x,
                 y,
                 z,

@@ -32,6 +32,7 @@ extern "C" {
     ) -> u32;
     fn taperhive_trailer(out: *mut u8, out_len: usize, at: usize, edition: u8, count: u32) -> u32;
     fn taperhive_bodies(
+        edition: u8,
         dx: u32,
         dy: u32,
         dz: u32,

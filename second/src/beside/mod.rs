@@ -20,9 +20,10 @@ pub use expected::Expected;
 pub use library::Library;
 
 use crate::edition::Edition;
-use crate::file::open;
+use crate::file::{open, MARK, TRAILER_BYTES};
 use crate::gen::{flavours, generate, words::words};
 use crate::rng::Rng;
+use crate::text::SWEEP_WORDS;
 use library::Caller;
 use report::Again;
 use tally::Tally;
@@ -56,6 +57,19 @@ impl Case {
         open(&self.file).map_or(Edition::One, |opened| opened.edition)
     }
 
+    /// The same records as the other one of editions 2 and 3, which have the same bytes and each its own range.
+    pub fn twin(&self) -> Option<Case> {
+        let other = match open(&self.file).ok()?.edition {
+            Edition::One => return None,
+            Edition::Two => Edition::Three,
+            Edition::Three => Edition::Two,
+        };
+        let mut file = self.file.clone();
+        let place = file.len() - TRAILER_BYTES + MARK.len();
+        file[place] = other.number();
+        Some(Case { seed: self.seed, flavour: self.flavour, file, words: vec![SWEEP_WORDS] })
+    }
+
     /// Keeps a crowd's lengths few, and the longest to one file in four.
     fn thin_out(&mut self) {
         let mut rng = Rng::new(self.seed, self.flavour);
@@ -78,8 +92,20 @@ impl Again for Case {
     }
 }
 
-/// Puts one case through the library; what differs, a line each.
+/// Puts one case through the library, and its records in the other range; what differs, a line each.
 pub fn compare(library: &Library, case: &Case, tally: &mut Tally) -> Vec<String> {
+    let mut differences = answers(library, case, tally);
+    if let Some(twin) = case.twin() {
+        let of_twin = answers(library, &twin, tally);
+        let edition = twin.edition().number();
+        differences.extend(of_twin.iter().map(|line| format!("as edition {edition}: {line}")));
+    }
+    differences.extend(writing::compare(library, case, tally));
+    differences
+}
+
+/// Every call that answers.
+fn answers(library: &Library, case: &Case, tally: &mut Tally) -> Vec<String> {
     let mut caller = Caller::new(library, case, tally);
     caller.count();
     let mut last: Option<Expected> = None;
@@ -93,7 +119,5 @@ pub fn compare(library: &Library, case: &Case, tally: &mut Tally) -> Vec<String>
         caller.single_answers(*words, &expected);
         last = Some(expected);
     }
-    let mut differences = caller.differences;
-    differences.extend(writing::compare(library, case, tally));
-    differences
+    caller.differences
 }

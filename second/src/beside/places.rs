@@ -50,15 +50,16 @@ pub fn absent(rng: &mut Rng, count: usize) -> usize {
     rng.pick(&[count, count + 1, 4096, 1 << 32, (1 << 32) + count / 2, 1 << 57, usize::MAX])
 }
 
-/// Both editions and a number that is none's.
-pub fn editions(rng: &mut Rng) -> [u8; 3] {
-    [1, 2, rng.pick(&[0, 3, 255])]
+/// Every edition and a number that is none's.
+pub fn editions(rng: &mut Rng) -> Vec<u8> {
+    let none = rng.pick(&[0, 4, 129, 255]);
+    Edition::ALL.iter().map(|edition| edition.number()).chain([none]).collect()
 }
 
-/// The bytes of an edition's record; of either edition's where the number is none's.
+/// The bytes of an edition's record; of any edition's where the number is none's.
 pub fn record_bytes(rng: &mut Rng, edition: u8) -> usize {
-    let either = rng.pick(&[Edition::One, Edition::Two]);
-    Edition::of(edition).unwrap_or(either).record_bytes()
+    let any = rng.pick(&Edition::ALL);
+    Edition::of(edition).unwrap_or(any).record_bytes()
 }
 
 /// Some of a list.

@@ -13,8 +13,8 @@ pub struct Tally {
     files: u64,
     differing: u64,
     calls: u64,
-    /// Records compared, of edition 1 and of edition 2.
-    queries: [u64; 2],
+    /// Records compared, of editions 1, 2 and 3.
+    queries: [u64; Edition::ALL.len()],
     boxes: u64,
     /// Calls that write a record, and that write a trailer.
     copies: u64,
@@ -110,9 +110,9 @@ impl Counts for Tally {
 
 impl fmt::Display for Tally {
     fn fmt(&self, f: &mut fmt::Formatter) -> fmt::Result {
-        let Tally { files, differing, calls, queries: [one, two], boxes, .. } = self;
-        write!(f, "{files} files, {calls} calls, {} queries", one + two)?;
-        write!(f, " (edition 1: {one}, edition 2: {two}), {boxes} boxes;")?;
+        let Tally { files, differing, calls, queries: [one, two, three], boxes, .. } = self;
+        write!(f, "{files} files, {calls} calls, {} queries", one + two + three)?;
+        write!(f, " (edition 1: {one}, edition 2: {two}, edition 3: {three}), {boxes} boxes;")?;
         write_answers(f, &self.words, &self.refusals)?;
         let Tally { copies, trailers, written, .. } = self;
         if copies + trailers > 0 {

@@ -48,12 +48,13 @@ pub struct Walk<'a> {
 
 impl Ways {
     fn new(first: u64) -> Ways {
-        let small = gen::bodies::flavours().into_iter().filter(|name| *name != gen::bodies::LARGE);
+        let small =
+            gen::bodies::flavours().into_iter().filter(|name| !gen::bodies::LARGE.contains(name));
         Ways {
             calls: Progress::new("in process", first, gen::flavours()),
             sweeps: Progress::new("sweep as a program", first, gen::flavours()),
             bodies: Progress::new("bodies", first, small.collect()),
-            large: Progress::new("bodies of 256 triangles", first, vec![gen::bodies::LARGE]),
+            large: Progress::new("bodies of 256 triangles", first, gen::bodies::LARGE.to_vec()),
             why: Progress::new("why in process", first, gen::flavours()),
             why_programs: Progress::new("why as a program", first, gen::flavours()),
         }

@@ -31,9 +31,7 @@ pub fn compare(library: &Library, case: &Case, tally: &mut Tally) -> Vec<String>
     if writer.rng.one_in(SELDOM) {
         writer.trailers_of_most();
     }
-    writer.whole_file(case.edition());
-    let other = if case.edition() == Edition::One { Edition::Two } else { Edition::One };
-    writer.whole_file(other);
+    Edition::ALL.into_iter().for_each(|edition| writer.whole_file(edition));
     writer.differences
 }
 
@@ -103,7 +101,7 @@ impl Writer<'_> {
 
     /// Behind as many records as a file may hold, and one byte before that place.
     fn trailers_of_most(&mut self) {
-        for edition in [Edition::One, Edition::Two] {
+        for edition in Edition::ALL {
             let at = edition.records_bytes(MOST_RECORDS) - self.rng.below(2);
             let length = at + TRAILER_BYTES + self.rng.below(3);
             for count in [MOST_RECORDS, MOST_RECORDS + 1] {

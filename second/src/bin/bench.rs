@@ -7,9 +7,11 @@ use second::bench::fast::Fast;
 use second::bench::float::{queries, Query};
 use second::bench::measure::{by_turns, Contestant, Measured, ROUNDS};
 use second::bench::plain::Plain;
+use second::bench::reading::{ONE, TWO};
 use second::bench::same::Same;
 use second::bench::table::{self, Head};
 use second::beside::{linked, Library};
+use second::edition::Edition;
 use std::borrow::Borrow;
 use std::collections::BinaryHeap;
 use std::hint::black_box;
@@ -28,25 +30,45 @@ const GROWTH: [Head; 8] = [
 ];
 
 fn main() -> ExitCode {
-    let corpus = Corpus::new(SEED);
-    let library = linked::library();
-    let (gangway, hull) = corpus.triangles;
     println!("ratio: the time by that of the same ideas by hand; {ROUNDS} rounds, queue of {QUEUE_WORDS} words, seed {SEED}");
-    println!("berth: {gangway} triangles of gangway, {hull} of hull");
-    for class in &corpus.classes {
-        if !alike(&library, class) {
-            println!("{}: the answers are not the same", class.name);
-            return ExitCode::FAILURE;
-        }
-        show(class, &library);
-    }
-    grow(&corpus.by_size, &library);
-    clearing();
-    if contest::run(&library, SEED, QUEUE_WORDS) {
+    if figures(&linked::library()) {
         ExitCode::SUCCESS
     } else {
         ExitCode::FAILURE
     }
+}
+
+/// Those of the shorter range with their growth, then the longer range's; false where some answers are not the same.
+fn figures(library: &Library) -> bool {
+    let corpus = Corpus::new(SEED, Edition::One);
+    let (gangway, hull) = corpus.triangles;
+    println!("berth: {gangway} triangles of gangway, {hull} of hull");
+    if !show_all::<ONE>(&corpus.classes, library) {
+        return false;
+    }
+    grow(&corpus.by_size, library);
+    clearing();
+    if !contest::run(library, Edition::Two, SEED, QUEUE_WORDS) {
+        return false;
+    }
+    contest::growth(library, Edition::Two, SEED, QUEUE_WORDS);
+    println!("\nedition 3");
+    let [_, level_0, deeper] = Corpus::new(SEED, Edition::Three).classes;
+    show_all::<TWO>(&[level_0, deeper], library)
+        && contest::run(library, Edition::Three, SEED, QUEUE_WORDS)
+}
+
+/// Files of records of SIZE bytes; false where some answers are not the same.
+fn show_all<const SIZE: usize>(classes: &[Class], library: &Library) -> bool {
+    classes.iter().all(|class| {
+        let alike = alike(library, class);
+        if alike {
+            show::<SIZE>(class, library);
+        } else {
+            println!("{}: the answers are not the same", class.name);
+        }
+        alike
+    })
 }
 
 /// The proved search and all exact ones written by hand give the same numbers.
@@ -62,15 +84,15 @@ fn alike(library: &Library, class: &Class) -> bool {
     proved.0 == 0 && [same, fast, plain].iter().all(|by_hand| *by_hand == proved)
 }
 
-fn show(class: &Class, library: &Library) {
-    let ready: Vec<Query> = queries(&class.file).collect();
+fn show<const SIZE: usize>(class: &Class, library: &Library) {
+    let ready: Vec<Query> = queries::<SIZE>(&class.file).collect();
     let mut contestants = [
         proved(class, library),
         one_by_one(class, library),
         by_hand::<Same>("by hand, the same ideas", class),
         by_hand::<Fast>("by hand, fastest", class),
         by_hand::<Plain>("by hand, eight corners", class),
-        floats("floats of 004, from the file", || queries(&class.file)),
+        floats("floats of 004, from the file", || queries::<SIZE>(&class.file)),
         floats("floats of 004, points ready", || ready.iter()),
     ];
     let measured = by_turns(&mut contestants, ROUNDS);

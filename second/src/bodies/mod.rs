@@ -1,5 +1,6 @@
 //! Two bodies of triangles: every pair is asked its fifteen queries, one after the other.
 
+use crate::edition::{Edition, Range};
 use crate::record::{Point, Record, EDGE_EDGE, VERTEX_FACE};
 use crate::refusals::{check_record, check_words, Refusal};
 use crate::search::{search, Answer, Corner};
@@ -26,6 +27,8 @@ pub struct Body<'a> {
 /// Two bodies and the numbers that all their queries share.
 #[derive(Clone, Copy, Debug, PartialEq, Eq)]
 pub struct Bodies<'a> {
+    /// Whose range the queries have; any number, of which some are no edition's.
+    pub edition: u8,
     pub a: Body<'a>,
     pub b: Body<'a>,
     /// On x, y, z.
@@ -73,16 +76,21 @@ pub enum BodiesAnswer {
 pub fn answer(bodies: &Bodies, words: usize) -> BodiesAnswer {
     match refusal(bodies, words) {
         Some(refusal) => BodiesAnswer::Refused(refusal),
-        None => walk(bodies.queries(), |record| search(record, words)),
+        None => walk(bodies.queries(), |record| search(record, Range::of(bodies.edition), words)),
     }
 }
 
-/// 21, else the number of the first query in order that is refused.
+/// 10, else 21, else the number of the first query in order that is refused.
 pub fn refusal(bodies: &Bodies, words: usize) -> Option<Refusal> {
+    let range = match Edition::of(bodies.edition) {
+        Ok(edition) => edition.range(),
+        Err(refusal) => return Some(refusal),
+    };
     if !bodies.a.has_its_positions() || !bodies.b.has_its_positions() {
         return Some(Refusal::Body);
     }
-    let of_query = |record: &Record| check_record(record).and_then(|()| check_words(words)).err();
+    let of_query =
+        |record: &Record| check_record(record, range).and_then(|()| check_words(words)).err();
     bodies.queries().find_map(|asked| of_query(&asked.record))
 }
 

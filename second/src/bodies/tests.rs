@@ -25,10 +25,10 @@ fn body(positions: &[Vec<i32>; 2]) -> Body<'_> {
     Body { count: start.len() / NUMBERS, start, end }
 }
 
-/// Separation 1, 2, 3, tolerance 16, budget 1,000.
+/// Edition 2, separation 1, 2, 3, tolerance 16, budget 1,000.
 fn bodies(positions: &[[Vec<i32>; 2]; 2]) -> Bodies<'_> {
     let [a, b] = [body(&positions[0]), body(&positions[1])];
-    Bodies { a, b, separations: [1, 2, 3], tolerance: 16, budget: 1_000 }
+    Bodies { edition: 2, a, b, separations: [1, 2, 3], tolerance: 16, budget: 1_000 }
 }
 
 fn met(t: u32, excess: u32, count: u32) -> Answer {
@@ -238,5 +238,61 @@ fn first_refused_query_decides() {
             );
             assert_eq!(number(&far, 1), if in_first { 3 } else { 7 });
         }
+    }
+}
+
+#[test]
+fn edition_comes_first() {
+    let positions = named_bodies(2, 3);
+    let sound = bodies(&positions);
+    let nothing = Body { count: 0, start: &[], end: &[] };
+    for edition in 0..=255 {
+        let is_one = (1..=3).contains(&edition);
+        let asked = Bodies { edition, tolerance: 64, ..sound };
+        assert_eq!(number(&asked, 4096), if is_one { 0 } else { 10 });
+        let no_body = Bodies { a: nothing, tolerance: 0, ..asked };
+        assert_eq!(number(&no_body, 0), if is_one { 21 } else { 10 });
+    }
+}
+
+#[test]
+fn range_is_that_of_the_edition() {
+    let mut positions = named_bodies(2, 3);
+    let asked = |positions: &[[Vec<i32>; 2]; 2], edition, tolerance| {
+        number(&Bodies { edition, tolerance, ..bodies(positions) }, 4096)
+    };
+    for edition in [1, 2] {
+        assert_eq!([15, 16, 63].map(|least| asked(&positions, edition, least)), [5, 0, 0]);
+    }
+    assert_eq!([16, 63, 64].map(|least| asked(&positions, 3, least)), [5, 5, 0]);
+    for (coordinate, must) in [
+        (1_048_576, [0, 0, 0]),
+        (1_048_577, [3, 3, 0]),
+        (2_097_152, [3, 3, 0]),
+        (2_097_153, [3; 3]),
+    ] {
+        for coordinate in [coordinate, -coordinate] {
+            positions[1][1][26] = coordinate;
+            assert_eq!([1, 2, 3].map(|edition| asked(&positions, edition, 64)), must);
+        }
+    }
+}
+
+#[test]
+fn times_of_edition_3_are_even_parts_of_the_same_step() {
+    // The row at which t is split 19 times, as corner 1 of A with face B.
+    let p = [vec![2097152, 63670, -187960], vec![-2097152, 65348, -1387294]];
+    let a = p.map(|corner| corner.repeat(3));
+    let b = [
+        vec![2097152, -37, 2097151, -2097152, 2097152, -2097152, -2097152, -2097152, -2097152],
+        vec![-2097152, 0, 2094236, 2097152, 2097115, -2097151, 2097152, -2097151, -2097152],
+    ];
+    let positions = [a, b];
+    let asked = Bodies { edition: 3, separations: [0, 0, 2], tolerance: 64, ..bodies(&positions) };
+    match answer(&Bodies { budget: 6_000, ..asked }, 4096) {
+        BodiesAnswer::Least(Least { word, t, query, excess, .. }) => {
+            assert_eq!((word, t, query, excess), (1, 524286, 1, 48));
+        }
+        other => panic!("{other:?}"),
     }
 }

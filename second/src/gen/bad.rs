@@ -1,12 +1,12 @@
 //! Refused records, damaged files and cut files.
 
+use super::as_in_a_file;
 use super::dice::Dice;
 use super::shapes::tiny;
-use super::with_ids;
-use crate::edition::Edition;
+use crate::edition::{Edition, Range};
 use crate::file::{fetch, file_of, MOST_RECORDS, TRAILER_BYTES};
 use crate::record::{word_at, Record};
-use crate::refusals::{MOST_BUDGET, MOST_COORDINATE as M, MOST_SEPARATION, MOST_TOLERANCE};
+use crate::refusals::{MOST_BUDGET, MOST_SEPARATION, MOST_TOLERANCE};
 
 /// Mostly a record with one refusal or several, else one at the ends of the ranges.
 pub fn maybe_refused(rng: &mut Dice) -> Record {
@@ -32,13 +32,24 @@ fn spoil(rng: &mut Dice, record: &mut Record, number: u32) {
         2 => spoil_flags(rng, record),
         3 => spoil_coordinate(rng, record),
         4 => spoil_separation(rng, record),
-        5 => record.tolerance = rng.pick(&[0, 1, 15, MOST_TOLERANCE + 1, 1 << 31, u32::MAX]),
+        5 => record.tolerance = bad_tolerance(rng),
         _ => record.budget = rng.pick(&[0, MOST_BUDGET + 1, 1 << 31, u32::MAX]),
     }
 }
 
+/// A tolerance that the range does not hold; of the longer one mostly around its least, down to that of the shorter one.
+pub fn bad_tolerance(rng: &mut Dice) -> u32 {
+    let least = rng.range().least_tolerance;
+    let shorter = Range::SHORTER.least_tolerance;
+    if least > shorter && !rng.one_in(3) {
+        let any = rng.between(shorter as i32, least as i32 - 1) as u32;
+        return rng.pick(&[shorter - 1, shorter, any, least - 1, least - 1, least - 1]);
+    }
+    rng.pick(&[0, 1, least - 1, MOST_TOLERANCE + 1, 1 << 31, u32::MAX])
+}
+
 fn spoil_flags(rng: &mut Dice, record: &mut Record) {
-    if rng.is_two() && rng.one_in(3) {
+    if rng.edition.is_by_axis() && rng.one_in(3) {
         spoil_spare(rng, record);
         if rng.one_in(2) {
             return;
@@ -53,7 +64,7 @@ fn spoil_flags(rng: &mut Dice, record: &mut Record) {
     }
 }
 
-/// Refusal 2 by edition 2's word alone.
+/// Refusal 2 by the word at 28 alone.
 pub fn spoil_spare(rng: &mut Dice, record: &mut Record) {
     record.spare = rng.pick(&[1, 1 << 8, 1 << 20, 1 << 31, u32::MAX]);
 }
@@ -64,7 +75,7 @@ pub fn spoil_separation(rng: &mut Dice, record: &mut Record) {
 }
 
 fn spoil_coordinate(rng: &mut Dice, record: &mut Record) {
-    let coordinate = rng.pick(&[M + 1, -M - 1, i32::MIN, i32::MAX, i32::MIN + 1, 1 << 30]);
+    let coordinate = rng.beyond();
     let points = if rng.one_in(2) { &mut record.start } else { &mut record.end };
     points[rng.below(4)][rng.below(3)] = coordinate;
 }
@@ -77,11 +88,11 @@ fn at_the_ends(rng: &mut Dice) -> Record {
     match rng.below(5) {
         0 => rng.put(&mut record.separations, MOST_SEPARATION),
         1 => record.tolerance = MOST_TOLERANCE,
-        2 => record.tolerance = 16,
+        2 => record.tolerance = rng.range().least_tolerance,
         3 => record.budget = 1,
         _ => {
             let points = if rng.one_in(2) { &mut record.start } else { &mut record.end };
-            points[rng.below(4)][rng.below(3)] = rng.pick(&[-M, M]);
+            points[rng.below(4)][rng.below(3)] = rng.end();
         }
     }
     record
@@ -94,7 +105,7 @@ fn sound(rng: &mut Dice) -> Vec<u8> {
     let size = rng.edition.record_bytes();
     let leading = rng.pick(&[0, 0, 1, size, 150]);
     let mut file = rng.bytes(leading);
-    file.extend(file_of(rng.edition, &with_ids(rng, records)));
+    file.extend(file_of(rng.edition, &as_in_a_file(rng, records)));
     file
 }
 
@@ -106,10 +117,16 @@ fn quick(rng: &mut Dice) -> Record {
 
 /// Wrong trailers in every combination, or flipped bits.
 pub fn damaged(rng: &mut Dice) -> Vec<u8> {
-    if rng.is_two() && rng.one_in(3) {
+    if rng.edition.is_by_axis() && rng.one_in(3) {
         return of_two_editions(rng);
     }
     let mut file = sound(rng);
+    if rng.edition == Edition::Three && rng.one_in(3) {
+        // Nothing but the edition: edition 2 has the same size, and reads the records by its own range.
+        let at = file.len() - TRAILER_BYTES;
+        file[at + 4] = rng.pick(&[0, 1, 2, 2, 4, 4, 129, 255]);
+        return file;
+    }
     match rng.below(4) {
         0 | 1 => {
             let chosen = 1 + rng.below(15);
@@ -134,17 +151,23 @@ fn is_slow(file: &[u8]) -> bool {
     (0..MOST_RECORDS).any(|n| fetch(file, n).is_ok_and(|record| record.budget > 2000))
 }
 
-/// Records of one edition before a trailer of any, which points back by either size.
+/// Records of one edition before a trailer of any, which points back by the size of another.
 fn of_two_editions(rng: &mut Dice) -> Vec<u8> {
     let count = rng.below(12);
     let records: Vec<Record> = (0..count).map(|_| quick(rng)).collect();
-    let [of_records, of_pointer] = [(); 2].map(|()| rng.pick(&[Edition::One, Edition::Two]));
+    // This edition and those before it.
+    let editions = &Edition::ALL[..usize::from(rng.edition.number())];
+    let [of_records, of_pointer] = [(); 2].map(|()| rng.pick(editions));
     // With so many more bytes before them, shorter records reach as far back as longer ones.
     let leading = rng.pick(&[0, 12 * count, (12 * count).saturating_sub(1), 150]);
     let mut file = rng.bytes(leading);
-    file.extend(file_of(of_records, &with_ids(rng, records)));
+    file.extend(file_of(of_records, &as_in_a_file(rng, records)));
     let at = file.len() - TRAILER_BYTES;
-    file[at + 4] = rng.pick(&[0, 1, 1, 2, 2, 3, 255]);
+    let numbers: &[u8] = match rng.edition {
+        Edition::Three => &[0, 1, 2, 2, 3, 3, 4, 129],
+        _ => &[0, 1, 1, 2, 2, 3, 255],
+    };
+    file[at + 4] = rng.pick(numbers);
     let back = of_pointer.records_bytes(count as u32) as u32;
     file[at + 8..at + 12].copy_from_slice(&back.to_le_bytes());
     if is_slow(&file) {

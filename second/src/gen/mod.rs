@@ -2,8 +2,10 @@
 
 mod bad;
 pub mod bodies;
+mod deep;
 mod degenerate;
 mod dice;
+mod far;
 pub mod queries;
 mod shapes;
 mod sizes;
@@ -17,25 +19,26 @@ use dice::Dice;
 
 type Make = fn(&mut Dice) -> Vec<u8>;
 
-/// Every flavour's name in edition 1 and in edition 2, and what makes its files.
-const FLAVOURS: [([&str; 2], Make); 17] = [
-    (["tiny", "tiny2"], |rng| plain(rng, shapes::tiny)),
-    (["full", "full2"], |rng| plain(rng, shapes::full)),
-    (["degenerate", "degenerate2"], |rng| plain(rng, degenerate::degenerate)),
-    (["extreme", "extreme2"], |rng| plain(rng, shapes::extreme)),
-    (["mixed", "mixed2"], |rng| plain(rng, mixed)),
-    (["budget", "budget2"], tuned::budget),
-    (["queue", "queue2"], tuned::queue),
-    (["refusals", "refusals2"], |rng| plain(rng, bad::maybe_refused)),
-    (["damaged", "damaged2"], bad::damaged),
-    (["truncated", "truncated2"], bad::truncated),
-    (["many", "many2"], sizes::many),
-    (["most", "most2"], sizes::most),
-    (["edge65536", "edge65536-2"], |rng| sizes::exactly(rng, 65_536)),
-    (["edge65537", "edge65537-2"], |rng| sizes::exactly(rng, 65_537)),
-    (["empty", "empty2"], sizes::empty),
-    (["leading", "leading2"], sizes::leading),
-    (["one", "one2"], |rng| vec_of(rng, 1, mixed)),
+/// Every flavour's name in editions 1, 2 and 3, and what makes its files.
+const FLAVOURS: [([&str; 3], Make); 18] = [
+    (["tiny", "tiny2", "tiny3"], |rng| plain(rng, shapes::tiny)),
+    (["full", "full2", "full3"], |rng| plain(rng, shapes::full)),
+    (["degenerate", "degenerate2", "degenerate3"], |rng| plain(rng, degenerate::degenerate)),
+    (["extreme", "extreme2", "extreme3"], |rng| plain(rng, shapes::extreme)),
+    (["mixed", "mixed2", "mixed3"], |rng| plain(rng, mixed)),
+    (["deep", "deep2", "deep3"], |rng| few(rng, deep::deep)),
+    (["budget", "budget2", "budget3"], tuned::budget),
+    (["queue", "queue2", "queue3"], tuned::queue),
+    (["refusals", "refusals2", "refusals3"], |rng| plain(rng, bad::maybe_refused)),
+    (["damaged", "damaged2", "damaged3"], bad::damaged),
+    (["truncated", "truncated2", "truncated3"], bad::truncated),
+    (["many", "many2", "many3"], sizes::many),
+    (["most", "most2", "most3"], sizes::most),
+    (["edge65536", "edge65536-2", "edge65536-3"], |rng| sizes::exactly(rng, 65_536)),
+    (["edge65537", "edge65537-2", "edge65537-3"], |rng| sizes::exactly(rng, 65_537)),
+    (["empty", "empty2", "empty3"], sizes::empty),
+    (["leading", "leading2", "leading3"], sizes::leading),
+    (["one", "one2", "one3"], |rng| vec_of(rng, 1, mixed)),
 ];
 
 /// The flavours' names.
@@ -45,10 +48,14 @@ pub fn flavours() -> Vec<&'static str> {
 
 /// The file of a seed and a flavour, if there is such a flavour.
 pub fn generate(seed: u64, flavour: &str) -> Option<Vec<u8>> {
-    let named = |names: &[&str; 2]| names.iter().position(|name| *name == flavour);
-    let (place, make) = FLAVOURS.iter().find_map(|(names, make)| Some((named(names)?, make)))?;
-    let edition = [Edition::One, Edition::Two][place];
-    Some(make(&mut Dice::new(seed, flavour, edition)))
+    let (place, make) = named(&FLAVOURS, flavour)?;
+    Some(make(&mut Dice::new(seed, flavour, Edition::ALL[place])))
+}
+
+/// Which of its names a flavour has and what makes it, if there is such a flavour.
+fn named<const N: usize, T: Copy>(list: &[([&str; N], T)], flavour: &str) -> Option<(usize, T)> {
+    let place = |names: &[&str; N]| names.iter().position(|name| *name == flavour);
+    list.iter().find_map(|(names, make)| Some((place(names)?, *make)))
 }
 
 /// 10 to 40 records of one shape, sometimes behind a few free bytes.
@@ -59,6 +66,12 @@ fn plain(rng: &mut Dice, shape: fn(&mut Dice) -> Record) -> Vec<u8> {
     file
 }
 
+/// Two to five records of a shape that takes many boxes.
+fn few(rng: &mut Dice, shape: fn(&mut Dice) -> Record) -> Vec<u8> {
+    let count = 2 + rng.below(4);
+    vec_of(rng, count, shape)
+}
+
 fn free_bytes(rng: &mut Dice) -> Vec<u8> {
     let length = 1 + rng.below(200);
     rng.bytes(length)
@@ -67,7 +80,7 @@ fn free_bytes(rng: &mut Dice) -> Vec<u8> {
 /// A file of so many records of one shape.
 fn vec_of(rng: &mut Dice, count: usize, shape: fn(&mut Dice) -> Record) -> Vec<u8> {
     let records: Vec<Record> = (0..count).map(|_| shape(rng)).collect();
-    file_of(rng.edition, &with_ids(rng, records))
+    file_of(rng.edition, &as_in_a_file(rng, records))
 }
 
 /// A record of any valid shape, sometimes a refused one.
@@ -81,12 +94,13 @@ fn mixed(rng: &mut Dice) -> Record {
     }
 }
 
-/// Ids mostly 1, 2, 3 and so on, sometimes any number, equal ones too.
-fn with_ids(rng: &mut Dice, mut records: Vec<Record>) -> Vec<Record> {
+/// Ids mostly 1, 2, 3 and so on, sometimes any number, equal ones too; places in edition 3 mostly moved out.
+fn as_in_a_file(rng: &mut Dice, mut records: Vec<Record>) -> Vec<Record> {
     let plain_ids = !rng.one_in(3);
     for (n, record) in records.iter_mut().enumerate() {
         let odd = [0, 1, u32::MAX, 1 << 31, rng.draw() as u32];
         record.id = if plain_ids { n as u32 + 1 } else { rng.pick(&odd) };
+        *record = far::moved_out(rng, *record);
     }
     records
 }

@@ -3,6 +3,7 @@
 use super::bad::{refused, spoil_separation, spoil_spare};
 use super::degenerate::degenerate;
 use super::dice::Dice;
+use super::far;
 use super::shapes::{extreme, full, tiny};
 use super::tuned::brick;
 use crate::edition::Edition;
@@ -14,16 +15,17 @@ use crate::told::told;
 /// The most boxes that a query may need.
 const CHEAP: u32 = 60;
 
-/// So many lines: words, the record's fields, then the answer's seven numbers.
-pub fn queries(seed: u64, number: usize) -> String {
-    let mut rng = Dice::new(seed, "queries", Edition::Two);
+/// So many lines: words, the record's fields, then the answer's seven numbers by the edition's range.
+pub fn queries(seed: u64, number: usize, edition: Edition) -> String {
+    let mut rng = Dice::new(seed, "queries", edition);
     (0..number).map(|_| line(&mut rng)).collect()
 }
 
 fn line(rng: &mut Dice) -> String {
     let (words, mut record) = if rng.one_in(6) { refused_query(rng) } else { cheap_query(rng) };
     record.id = rng.pick(&[0, 1, 77, u32::MAX]);
-    let answer = told(&search(&record, words)).map(i64::from);
+    let record = far::moved_out(rng, record);
+    let answer = told(&search(&record, rng.range(), words)).map(i64::from);
     let numbers = fields(words, &record).into_iter().chain(answer);
     let numbers: Vec<String> = numbers.map(|number| number.to_string()).collect();
     numbers.join(" ") + "\n"
@@ -41,7 +43,7 @@ fn fields(words: usize, record: &Record) -> Vec<i64> {
     fields
 }
 
-/// Refusals 1 to 6, 7, or both; edition 2's own places by themselves too.
+/// Refusals 1 to 6, 7, or both; the places that edition 1 has not by themselves too.
 fn refused_query(rng: &mut Dice) -> (usize, Record) {
     let bad_words = rng.pick(&[0, 1, MOST_WORDS + 1]);
     let good_words = rng.pick(&[2, 64, 4096, MOST_WORDS]);
@@ -77,7 +79,7 @@ fn cheap(rng: &mut Dice) -> (Record, usize) {
         _ => brick(rng, CHEAP),
     };
     let mut record = Record { budget: CHEAP + 1, ..base };
-    let (answer, trace) = search_traced(&record, MOST_WORDS);
+    let (answer, trace) = search_traced(&record, rng.range(), MOST_WORDS);
     if dull(&answer) && !rng.one_in(4) {
         return cheap(rng);
     }

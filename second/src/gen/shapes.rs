@@ -1,13 +1,11 @@
 //! Records by the shape of their coordinates.
 
 use super::dice::Dice;
+use crate::edition::Range;
 use crate::gap::{Motion, Q};
 use crate::record::{Point, Record, EDGE_EDGE, VERTEX_FACE};
-use crate::refusals::{MOST_COORDINATE as M, MOST_TOLERANCE};
+use crate::refusals::MOST_TOLERANCE;
 use crate::search::{search, Answer};
-
-/// Half the range, so that a start plus a velocity stays inside it.
-const S: i32 = M / 2;
 
 /// Four points, each by one call.
 pub fn four(mut point: impl FnMut() -> Point) -> [Point; 4] {
@@ -56,10 +54,12 @@ fn separation(rng: &mut Dice, reach: i32) -> u32 {
 }
 
 fn tolerance(rng: &mut Dice, reach: i32) -> u32 {
-    let close = rng.between(16, 64);
+    let least = rng.range().least_tolerance as i32;
+    let close = rng.between(least, 4 * least);
     let octaves = rng.below(21);
     let any = rng.between(0, 1 << octaves);
-    rng.pick(&[16, 16, close, reach / 10, reach, any]).clamp(16, M) as u32
+    let tolerance = rng.pick(&[least, least, close, reach / 10, reach, any]);
+    tolerance.clamp(least, MOST_TOLERANCE as i32) as u32
 }
 
 /// Moves the first body so that F is near nought at a random place.
@@ -70,10 +70,10 @@ pub fn aim(rng: &mut Dice, mut record: Record) -> Record {
     let f = Motion::of(&record).f(place).map(|f| (f / (Q * Q)) as i32);
     let miss = rng.pick(&[0, 0, 1, 2, 20]);
     let off = point(rng, miss);
-    let first_body = if record.kind == VERTEX_FACE { 1 } else { 2 };
+    let (first_body, most) = (record.second_body(), rng.range().most_coordinate);
     for points in [&mut record.start, &mut record.end] {
         for point in &mut points[..first_body] {
-            *point = [0, 1, 2].map(|axis| (point[axis] - f[axis] + off[axis]).clamp(-M, M));
+            *point = [0, 1, 2].map(|axis| (point[axis] - f[axis] + off[axis]).clamp(-most, most));
         }
     }
     record
@@ -82,7 +82,7 @@ pub fn aim(rng: &mut Dice, mut record: Record) -> Record {
 /// A far larger budget where the answer comes quickly without it.
 pub fn generous(rng: &mut Dice, record: Record) -> Record {
     let quick = Record { budget: 300, ..record };
-    match search(&quick, 4096) {
+    match search(&quick, rng.range(), 4096) {
         Answer::Met(_) | Answer::Clear { .. } => {
             let any = rng.between(301, 1_000_000) as u32;
             Record { budget: rng.pick(&[1000, 1_000_000, any]), ..record }
@@ -118,19 +118,21 @@ pub fn tiny(rng: &mut Dice) -> Record {
 
 /// The whole range: two bodies thrown at each other along one direction.
 pub fn full(rng: &mut Dice) -> Record {
-    let direction = point(rng, S);
+    // Half the range, so that a start plus a velocity stays inside it.
+    let half = rng.range().most_coordinate / 2;
+    let direction = point(rng, half);
     let kind = kind(rng);
     let first_body = if kind == VERTEX_FACE { 1 } else { 2 };
     let (mut start, mut end) = ([[0; 3]; 4], [[0; 3]; 4]);
     for n in 0..4 {
         let toward = if n < first_body { 1 } else { -1 };
-        let (place, velocity) = (point(rng, S), point(rng, S));
+        let (place, velocity) = (point(rng, half), point(rng, half));
         for axis in 0..3 {
             start[n][axis] = place[axis] + toward * direction[axis];
             end[n][axis] = start[n][axis] + velocity[axis] - toward * direction[axis];
         }
     }
-    let reach = rng.pick(&[100, 10_000, S]);
+    let reach = rng.pick(&[100, 10_000, half]);
     let record = record(rng, kind, reach, [start, end]);
     if rng.one_in(2) {
         return record;
@@ -138,9 +140,10 @@ pub fn full(rng: &mut Dice) -> Record {
     finish(rng, record)
 }
 
-/// Every coordinate at an end of the range or nought; half have a width of 2 to 63.
+/// Every coordinate at an end of the range or nought; half have the greatest width, in editions 1 and 2 one of 2 to 63.
 pub fn extreme(rng: &mut Dice) -> Record {
-    let ends: &[i32] = if rng.one_in(2) { &[-M, M] } else { &[-M, 0, M] };
+    let Range { most_coordinate: most, least_tolerance: least, .. } = rng.range();
+    let ends: &[i32] = if rng.one_in(2) { &[-most, most] } else { &[-most, 0, most] };
     let mut corner = || [0; 3].map(|_| rng.pick(ends));
     let (mut start, mut end) = (four(&mut corner), four(&mut corner));
     let mut kind = kind(rng);
@@ -148,9 +151,9 @@ pub fn extreme(rng: &mut Dice) -> Record {
         kind = VERTEX_FACE;
         widest(rng, &mut start, &mut end);
     }
-    let mut record = record(rng, kind, M, [start, end]);
+    let mut record = record(rng, kind, most, [start, end]);
     record.separations = rng.separations(|rng| rng.pick(&[0, 0, 1, 65_535, 65_536]));
-    record.tolerance = rng.pick(&[16, 16, 1000, MOST_TOLERANCE - 1, MOST_TOLERANCE]);
+    record.tolerance = rng.pick(&[least, least, 1000, MOST_TOLERANCE - 1, MOST_TOLERANCE]);
     if rng.one_in(4) {
         record = generous(rng, record);
     }
@@ -160,14 +163,14 @@ pub fn extreme(rng: &mut Dice) -> Record {
 /// p and v1 from one end of an axis to the other, v2 and v3 against them.
 fn widest(rng: &mut Dice, start: &mut [Point; 4], end: &mut [Point; 4]) {
     let axis = rng.below(3);
-    let side = rng.pick(&[-M, M]);
+    let side = rng.end();
     for (n, sign) in [1, 1, -1, -1].into_iter().enumerate() {
         start[n][axis] = sign * side;
         end[n][axis] = -sign * side;
     }
     // Something off the axis keeps the first corner from being a contact.
     let other = (axis + 1) % 3;
-    let off = rng.pick(&[0, 1, 100, M]);
+    let off = rng.pick(&[0, 1, 100, side.abs()]);
     (start[0][other], end[0][other]) = (off, rng.pick(&[-off, off, 0]));
     for n in 1..4 {
         (start[n][other], end[n][other]) = (0, 0);

@@ -3,7 +3,7 @@
 use super::bad::maybe_refused;
 use super::dice::Dice;
 use super::shapes::tiny;
-use super::{mixed, vec_of, with_ids};
+use super::{as_in_a_file, mixed, vec_of};
 use crate::file::{file_of, trailer, MOST_RECORDS, TRAILER_BYTES};
 use crate::record::Record;
 use crate::text::MOST_INPUT;
@@ -19,7 +19,7 @@ fn small(rng: &mut Dice, most: u32) -> Record {
 /// So many small records.
 fn crowd(rng: &mut Dice, count: usize, most: u32) -> Vec<u8> {
     let records = (0..count).map(|_| small(rng, most)).collect();
-    file_of(rng.edition, &with_ids(rng, records))
+    file_of(rng.edition, &as_in_a_file(rng, records))
 }
 
 /// As many records as a file may hold: too long for `sweep`.

@@ -1,9 +1,10 @@
 //! Records aimed at the exact count of a budget and at the exact need of a queue.
 
+use super::as_in_a_file;
 use super::degenerate::degenerate;
 use super::dice::Dice;
 use super::shapes::{extreme, full, tiny};
-use super::with_ids;
+use crate::edition::Range;
 use crate::file::file_of;
 use crate::record::{Record, EDGE_EDGE};
 use crate::refusals::MOST_WORDS;
@@ -22,7 +23,7 @@ pub fn budget(rng: &mut Dice) -> Vec<u8> {
             }
         }
     }
-    file_of(rng.edition, &with_ids(rng, records))
+    file_of(rng.edition, &as_in_a_file(rng, records))
 }
 
 fn any_shape(rng: &mut Dice) -> Record {
@@ -37,7 +38,7 @@ fn any_shape(rng: &mut Dice) -> Record {
 
 /// The answer's count, or the count at which a level ends.
 fn telling_count(rng: &mut Dice, base: &Record) -> u32 {
-    let (answer, trace) = search_traced(&Record { budget: 400, ..*base }, 4096);
+    let (answer, trace) = search_traced(&Record { budget: 400, ..*base }, rng.range(), 4096);
     if trace.level_ends.is_empty() || !rng.one_in(3) {
         return answer.count();
     }
@@ -51,7 +52,7 @@ pub fn queue(rng: &mut Dice) -> Vec<u8> {
     // Among the first few, where the lengths worth trying are taken from.
     let place = rng.below(3);
     records.insert(place, heavy(rng));
-    file_of(rng.edition, &with_ids(rng, records))
+    file_of(rng.edition, &as_in_a_file(rng, records))
 }
 
 /// A record with a level of three boxes at least.
@@ -61,15 +62,15 @@ fn crowded(rng: &mut Dice) -> Record {
         let record = if rng.one_in(3) { brick(rng, budget) } else { any_shape(rng) };
         // A large budget is meant for the usual queue; a longer one could let it run on.
         let record = Record { budget: record.budget.min(2000), ..record };
-        if peak(&record) >= 3 {
+        if peak(&record, rng.range()) >= 3 {
             return record;
         }
     }
 }
 
 /// Boxes of the largest level when the queue leaves room.
-pub fn peak(record: &Record) -> usize {
-    search_traced(record, MOST_WORDS).1.peak
+pub fn peak(record: &Record, range: Range) -> usize {
+    search_traced(record, range, MOST_WORDS).1.peak
 }
 
 /// Around the half of 4,096 words, just enough or just too much for it.
@@ -78,13 +79,13 @@ fn heavy(rng: &mut Dice) -> Record {
     let family: fn(&mut Dice) -> Record = rng.pick(&[|rng| brick(rng, 5000), parallel]);
     let mut record = family(rng);
     for _ in 0..6 {
-        if (wanted.0..=wanted.1).contains(&peak(&record)) {
+        if (wanted.0..=wanted.1).contains(&peak(&record, rng.range())) {
             break;
         }
         record = family(rng);
     }
     // A separation of its own may reach the first corner, and then there is no second level.
-    while rng.is_two() && peak(&record) < 3 {
+    while rng.edition.is_by_axis() && peak(&record, rng.range()) < 3 {
         record = family(rng);
     }
     record
@@ -92,9 +93,12 @@ fn heavy(rng: &mut Dice) -> Record {
 
 /// Parallel edges that meet along a line, whose levels are of many sizes.
 fn parallel(rng: &mut Dice) -> Record {
-    let length = rng.between(1800, 2400);
-    let height = rng.between(900, 1100);
-    let shift = rng.between(0, 40);
+    let least = rng.range().least_tolerance;
+    // With a greater least tolerance everything is larger, so that the levels are as large.
+    let scale = (least / Range::SHORTER.least_tolerance) as i32;
+    let length = scale * rng.between(1800, 2400);
+    let height = scale * rng.between(900, 1100);
+    let shift = scale * rng.between(0, 40);
     let still = [[shift, 0, 0], [shift + length, 0, 0]];
     let moving = |z: i32| [[0, 0, z], [length, 0, z], still[0], still[1]];
     Record {
@@ -104,8 +108,8 @@ fn parallel(rng: &mut Dice) -> Record {
         byte3: 0,
         id: 0,
         // A wider band of contact makes larger levels, by a few boxes at a time.
-        separations: rng.separations(|rng| rng.between(0, 24) as u32),
-        tolerance: 16 + rng.below(10) as u32,
+        separations: rng.separations(|rng| (scale * rng.between(0, 24)) as u32),
+        tolerance: least + rng.below(10) as u32,
         budget: 9000,
         spare: 0,
         start: moving(height),
@@ -128,6 +132,7 @@ pub fn brick(rng: &mut Dice, budget: u32) -> Record {
     let turn = rng.below(3);
     // Turning the axes alike in every point changes nothing but which axis is which.
     let turned = |x: i32| moving(x).map(|p| [p[turn], p[(turn + 1) % 3], p[(turn + 2) % 3]]);
+    let least = rng.range().least_tolerance;
     Record {
         kind: EDGE_EDGE,
         flags: 0,
@@ -135,7 +140,7 @@ pub fn brick(rng: &mut Dice, budget: u32) -> Record {
         byte3: 0,
         id: 0,
         separations: rng.separations(|rng| rng.around(d as u32)),
-        tolerance: (((2 * d) >> halvings) + rng.between(0, 3)).max(16) as u32,
+        tolerance: least.max((((2 * d) >> halvings) + rng.between(0, 3)) as u32),
         budget,
         spare: 0,
         start: turned(from),

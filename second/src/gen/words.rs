@@ -2,6 +2,7 @@
 
 use super::generate;
 use super::tuned::peak;
+use crate::edition::Range;
 use crate::file::{fetch, open};
 use crate::refusals::MOST_WORDS;
 use crate::rng::Rng;
@@ -17,10 +18,11 @@ pub fn words(seed: u64, flavour: &str) -> Option<Vec<usize>> {
     let mut rng = Rng::new(seed, "words");
     let odd = 2 * rng.below(300) + 5;
     let mut lengths = vec![0, 1, 2, 3, odd, 4096];
-    let count = open(&file).map_or(0, |opened| opened.count);
+    let (count, range) =
+        open(&file).map_or((0, Range::SHORTER), |opened| (opened.count, opened.edition.range()));
     for n in 0..count.min(FIRST_FEW) {
         if let Ok(record) = fetch(&file, n) {
-            around(2 * peak(&record), &mut lengths);
+            around(2 * peak(&record, range), &mut lengths);
         }
         if lengths.len() + 4 > ENOUGH {
             break;

@@ -2,6 +2,7 @@
 
 pub mod text;
 
+use crate::edition::Range;
 use crate::record::{Record, VERTEX_FACE};
 use crate::refusals::Refusal;
 use crate::search::log::{GridBox, LoggedLevel, Miss};
@@ -43,8 +44,8 @@ impl Discarded {
 
 impl Searched {
     /// Refusals 1 to 7.
-    pub fn of(record: &Record, words: usize) -> Result<Searched, Refusal> {
-        match search_traced(record, words) {
+    pub fn of(record: &Record, range: Range, words: usize) -> Result<Searched, Refusal> {
+        match search_traced(record, range, words) {
             (Answer::Refused(refusal), _) => Err(refusal),
             (answer, trace) => Ok(Searched { record: *record, answer, log: trace.log }),
         }

@@ -11,8 +11,8 @@ pub fn searched(input: &[u8], n: usize) -> Result<Searched, Refusal> {
     if input.len() > MOST_INPUT {
         return Err(Refusal::Long);
     }
-    let record = record_at(input, record_number(n))?;
-    Searched::of(&record, SWEEP_WORDS)
+    let (record, range) = record_at(input, record_number(n))?;
+    Searched::of(&record, range, SWEEP_WORDS)
 }
 
 /// The one line that says what rules a point out, or what is refused.

@@ -1,6 +1,7 @@
 //! Records in few words, for the tests.
 #![allow(dead_code)]
 
+use second::edition::Range;
 use second::file::{open, record_at};
 use second::gen::generate;
 use second::record::{Point, Record, EDGE_EDGE, VERTEX_FACE};
@@ -8,6 +9,8 @@ use second::search::{search, Answer, Corner};
 
 /// The number that the sources' records call M.
 pub const M: i32 = 1_048_576;
+/// The end of edition 3's range.
+pub const M3: i32 = 2_097_152;
 /// Face T of the berth examples.
 pub const T: [Point; 3] = [[-100, -100, 0], [300, -100, 0], [-100, 300, 0]];
 /// Face G.
@@ -79,9 +82,19 @@ pub fn clear(count: u32) -> Answer {
     Answer::Clear { count }
 }
 
-/// The answer with 4,096 words.
+/// The answer with 4,096 words, in edition 1 or 2.
 pub fn ask(record: Record) -> Answer {
-    search(&record, 4096)
+    ask_with(record, 4096)
+}
+
+/// The answer with so many words, in edition 1 or 2.
+pub fn ask_with(record: Record, words: usize) -> Answer {
+    search(&record, Range::SHORTER, words)
+}
+
+/// The answer with 4,096 words, in edition 3.
+pub fn ask3(record: Record) -> Answer {
+    search(&record, Range::LONGER, 4096)
 }
 
 /// The files of a flavour's first seeds.
@@ -89,8 +102,13 @@ pub fn files(flavour: &str, seeds: u64) -> Vec<Vec<u8>> {
     (0..seeds).map(|seed| generate(seed, flavour).unwrap()).collect()
 }
 
-/// The records of a file, refused ones too; none of a refused file.
-pub fn records(file: &[u8]) -> Vec<Record> {
+/// The records of a file, refused ones too, each with its range; none of a refused file.
+pub fn ranged(file: &[u8]) -> Vec<(Record, Range)> {
     let count = open(file).map_or(0, |opened| opened.count);
     (0..count).map(|n| record_at(file, n).unwrap()).collect()
+}
+
+/// The records alone.
+pub fn records(file: &[u8]) -> Vec<Record> {
+    ranged(file).into_iter().map(|(record, _)| record).collect()
 }

@@ -1,13 +1,15 @@
 //! The generator of bodies: what each flavour promises.
 
-use second::bodies::{answer, refusal, BodiesAnswer, Least};
+use second::bodies::{answer, refusal, walk, BodiesAnswer, Least};
+use second::edition::Range;
 use second::gen::bodies::{flavours, generate, words::words, Drawn, LARGE};
-use second::refusals::{Refusal, MOST_COORDINATE, MOST_WORDS};
+use second::record::Record;
+use second::refusals::{Refusal, MOST_WORDS};
 use second::search::search;
 use second::told::told;
 
 const SEEDS: u64 = 60;
-const SOUND: [&str; 10] = [
+const SOUND: [&str; 11] = [
     "bodies-near",
     "bodies-far",
     "bodies-ties",
@@ -16,9 +18,20 @@ const SOUND: [&str; 10] = [
     "bodies-together",
     "bodies-degenerate",
     "bodies-extreme",
+    "bodies-deep",
     "bodies-budget",
     "bodies-queue",
 ];
+
+/// A flavour in the shorter range and in the longer.
+fn both(flavour: &str) -> [String; 2] {
+    ["", "3"].map(|number| format!("{flavour}{number}"))
+}
+
+/// The flavours of sound bodies in both ranges.
+fn sound() -> Vec<String> {
+    SOUND.into_iter().flat_map(both).collect()
+}
 
 fn drawn(flavour: &str) -> impl Iterator<Item = Drawn> + '_ {
     (1..=SEEDS).map(move |seed| generate(seed, flavour).unwrap())
@@ -46,7 +59,7 @@ fn seed_and_flavour_decide_the_bodies() {
 #[test]
 fn shapes_are_sound_bodies_of_one_to_twelve_triangles() {
     let mut seen = [[false; 13]; 2];
-    for drawn in SOUND.into_iter().flat_map(drawn) {
+    for drawn in sound().iter().flat_map(|flavour| drawn(flavour)) {
         assert_eq!(number(&drawn), 0);
         for (side, count) in drawn.counts.into_iter().enumerate() {
             seen[side][count] = true;
@@ -57,19 +70,22 @@ fn shapes_are_sound_bodies_of_one_to_twelve_triangles() {
 
 #[test]
 fn shapes_bring_every_word_but_floor_at_nought_and_later() {
-    let (mut words, mut later) = ([0; 6], [0; 6]);
-    for drawn in SOUND.into_iter().flat_map(|flavour| drawn(flavour).take(12)) {
-        match answer(&drawn.bodies(), 64) {
-            BodiesAnswer::Clear { .. } => words[2] += 1,
-            BodiesAnswer::Least(Least { word, t, .. }) => {
-                words[word as usize] += 1;
-                later[word as usize] += usize::from(t > 0);
+    for range in 0..2 {
+        let (mut words, mut later) = ([0; 6], [0; 6]);
+        let flavours = SOUND.map(|flavour| both(flavour)[range].clone());
+        for drawn in flavours.iter().flat_map(|flavour| drawn(flavour).take(12)) {
+            match answer(&drawn.bodies(), 64) {
+                BodiesAnswer::Clear { .. } => words[2] += 1,
+                BodiesAnswer::Least(Least { word, t, .. }) => {
+                    words[word as usize] += 1;
+                    later[word as usize] += usize::from(t > 0);
+                }
+                BodiesAnswer::Refused(refusal) => panic!("{refusal:?}"),
             }
-            BodiesAnswer::Refused(refusal) => panic!("{refusal:?}"),
         }
+        assert!([1, 2, 3, 4].iter().all(|word| words[*word] >= 5), "{words:?}");
+        assert!([1, 3, 4].iter().all(|word| later[*word] >= 1), "{later:?}");
     }
-    assert!([1, 2, 3, 4].iter().all(|word| words[*word] >= 5), "{words:?}");
-    assert!([1, 3, 4].iter().all(|word| later[*word] >= 1), "{later:?}");
 }
 
 #[test]
@@ -79,9 +95,12 @@ fn separations_are_mostly_not_equal_and_motions_differ() {
     assert!(how_many("bodies-near", |drawn| drawn.positions[0][0] != drawn.positions[0][1]) > 40);
     let ends = |drawn: &Drawn| {
         let mut all = drawn.positions.as_flattened().iter().flatten();
-        all.all(|coordinate| [0, MOST_COORDINATE].contains(&coordinate.abs()))
+        let most = Range::of(drawn.edition).most_coordinate;
+        all.all(|coordinate| [0, most].contains(&coordinate.abs()))
     };
     assert_eq!(how_many("bodies-extreme", ends), SEEDS as usize);
+    // Those that lie between the ends are moved out.
+    assert!(how_many("bodies-extreme3", ends) > SEEDS as usize / 2);
     let together = |drawn: &Drawn| {
         let way = |side: usize, axis: usize| {
             let [start, end] = &drawn.positions[side];
@@ -96,7 +115,8 @@ fn separations_are_mostly_not_equal_and_motions_differ() {
 fn ties_have_their_time_at_several_queries_with_different_numbers() {
     let (mut tied, mut told_apart) = (0, 0);
     for drawn in drawn("bodies-ties").take(20) {
-        let asked = drawn.bodies().queries().map(|asked| told(&search(&asked.record, 64)));
+        let ask = |record: &Record| told(&search(record, Range::SHORTER, 64));
+        let asked = drawn.bodies().queries().map(|asked| ask(&asked.record));
         let answers: Vec<[u32; 7]> = asked.filter(|told| told[0] != 2).collect();
         let least = answers.iter().map(|told| told[1]).min();
         let first: Vec<&[u32; 7]> = answers.iter().filter(|told| Some(told[1]) == least).collect();
@@ -108,8 +128,10 @@ fn ties_have_their_time_at_several_queries_with_different_numbers() {
 
 #[test]
 fn refusals_come_alone_and_together() {
-    for refused in 3..=6 {
-        assert!(how_many("bodies-refusals", |drawn| number(drawn) == refused) >= 3, "{refused}");
+    for (flavour, refused) in
+        both("bodies-refusals").iter().flat_map(|f| (3..=6).map(move |n| (f, n)))
+    {
+        assert!(how_many(flavour, |drawn| number(drawn) == refused) >= 3, "{flavour} {refused}");
     }
     // The first query's own coordinate goes before the tolerance, a later one's behind it.
     let bad_tolerance = |drawn: &Drawn| !(16..=1_048_576).contains(&drawn.tolerance);
@@ -150,9 +172,9 @@ fn lengths_and_counts_are_refused_each_way() {
 #[test]
 fn queue_lengths_of_every_sort() {
     let mut tried = Vec::new();
-    for flavour in SOUND {
+    for flavour in sound() {
         for seed in 1..=SEEDS {
-            tried.extend(words(seed, flavour, &generate(seed, flavour).unwrap()));
+            tried.extend(words(seed, &flavour, &generate(seed, &flavour).unwrap()));
         }
     }
     for length in [0, 1, 2, 3, 64, 4_096, MOST_WORDS, MOST_WORDS + 1] {
@@ -164,7 +186,54 @@ fn queue_lengths_of_every_sort() {
 #[test]
 fn largest_bodies_are_sound() {
     for seed in 1..5 {
-        let drawn = generate(seed, LARGE).unwrap();
-        assert_eq!((drawn.counts, number(&drawn)), ([256, 256], 0));
+        for drawn in LARGE.map(|flavour| generate(seed, flavour).unwrap()) {
+            assert_eq!((drawn.counts, number(&drawn)), ([256, 256], 0));
+        }
+    }
+}
+
+#[test]
+fn editions_are_those_of_the_range_or_none() {
+    for flavour in SOUND {
+        let [shorter, longer] = both(flavour);
+        for edition in [1, 2] {
+            assert!(how_many(&shorter, |drawn| drawn.edition == edition) > SEEDS as usize / 4);
+        }
+        assert_eq!(how_many(&shorter, |drawn| drawn.edition == 3), 0);
+        assert_eq!(how_many(&longer, |drawn| drawn.edition == 3), SEEDS as usize);
+    }
+    for flavour in both("bodies-editions") {
+        assert_eq!(how_many(&flavour, |drawn| number(drawn) == 10), SEEDS as usize);
+        for edition in [0, 4, 129, 255] {
+            assert!(how_many(&flavour, |drawn| drawn.edition == edition) >= 3, "{edition}");
+        }
+        // What would be given if the edition were one.
+        let behind = |drawn: &Drawn| number(&Drawn { edition: 3, ..drawn.clone() });
+        for refused in [0, 3, 5, 21] {
+            assert!(how_many(&flavour, |drawn| behind(drawn) == refused) >= 1, "{refused}");
+        }
+    }
+}
+
+#[test]
+fn longer_range_is_used() {
+    for flavour in SOUND.map(|flavour| both(flavour)[1].clone()) {
+        let coordinates = |drawn: &Drawn| drawn.positions.as_flattened().concat();
+        let beyond = |drawn: &Drawn| coordinates(drawn).iter().any(|c| !Range::SHORTER.holds(*c));
+        assert!(how_many(&flavour, beyond) > SEEDS as usize / 2, "{flavour}");
+        let end = |drawn: &Drawn| coordinates(drawn).iter().any(|c| c.abs() == 2_097_152);
+        assert!(how_many(&flavour, end) > SEEDS as usize / 3, "{flavour}");
+    }
+}
+
+#[test]
+fn deep_bodies_need_the_depth_that_t_has() {
+    for (flavour, other) in both("bodies-deep").iter().zip([19, 20]) {
+        let otherwise = |drawn: &Drawn| {
+            let range = Range { deepest: other, ..Range::of(drawn.edition) };
+            let walked = walk(drawn.bodies().queries(), |record| search(record, range, 4096));
+            walked != answer(&drawn.bodies(), 4096)
+        };
+        assert!(drawn(flavour).take(12).filter(otherwise).count() >= 6, "{flavour}");
     }
 }

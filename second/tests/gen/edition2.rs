@@ -1,7 +1,7 @@
-//! The generators of edition 2, and that those of edition 1 still make what they made.
+//! The generators of edition 2, and that those of editions 1 and 2 still make what they made.
 
 use crate::common::{files, records};
-use second::edition::Edition;
+use second::edition::{Edition, Range};
 use second::file::{open, TRAILER_BYTES};
 use second::gen::{flavours, generate, queries::queries};
 use second::record::Record;
@@ -10,25 +10,25 @@ use second::text::sweep;
 
 const SEEDS: u64 = 40;
 
-/// FNV-1a of the files of seeds 1 to 3, behind each other, as they were before there was an edition 2.
-const BEFORE: [(&str, u64); 17] = [
-    ("tiny", 0x636F_7EAB_D5F6_D6BA),
-    ("full", 0xE322_00FE_2E89_4355),
-    ("degenerate", 0xB136_180E_19AC_F261),
-    ("extreme", 0x1FD9_A758_C4C3_5BA6),
-    ("mixed", 0x7065_5F54_C5B3_634B),
-    ("budget", 0x80E8_AC28_E8C8_76F5),
-    ("queue", 0x78B9_2E89_155F_A43D),
-    ("refusals", 0x245B_1F5D_3F3F_5E2B),
-    ("damaged", 0xB200_3575_CC5B_0822),
-    ("truncated", 0x3431_5B38_9D9C_0073),
-    ("many", 0x3B3E_7E1B_36E5_D5BC),
-    ("most", 0x1B73_1C98_330F_D621),
-    ("edge65536", 0xD537_B9CD_AB79_4E07),
-    ("edge65537", 0x203B_B943_4DD7_7CDD),
-    ("empty", 0x8772_6BD5_5B40_2295),
-    ("leading", 0xCF75_57BA_B280_574F),
-    ("one", 0x781D_308B_7871_180C),
+/// FNV-1a of the files of seeds 1 to 3, behind each other, in edition 1 and in edition 2, as they were before there was a later one.
+const BEFORE: [(&str, [u64; 2]); 17] = [
+    ("tiny", [0x636F_7EAB_D5F6_D6BA, 0x7587_0C8E_4C2D_98D7]),
+    ("full", [0xE322_00FE_2E89_4355, 0x9601_DF95_4808_8383]),
+    ("degenerate", [0xB136_180E_19AC_F261, 0x68EF_1FE0_BD3B_2A4D]),
+    ("extreme", [0x1FD9_A758_C4C3_5BA6, 0xCBA5_24E6_0DF5_CA88]),
+    ("mixed", [0x7065_5F54_C5B3_634B, 0xDDA5_BEB3_EAFB_28F6]),
+    ("budget", [0x80E8_AC28_E8C8_76F5, 0xE5C2_E6F9_7889_DE70]),
+    ("queue", [0x78B9_2E89_155F_A43D, 0xCFCE_3497_43AC_F605]),
+    ("refusals", [0x245B_1F5D_3F3F_5E2B, 0x5303_27F7_2E7A_CF21]),
+    ("damaged", [0xB200_3575_CC5B_0822, 0xB388_B39F_3A04_D066]),
+    ("truncated", [0x3431_5B38_9D9C_0073, 0x90EF_71E5_609D_8656]),
+    ("many", [0x3B3E_7E1B_36E5_D5BC, 0x2FBB_DA3C_8FFF_9B15]),
+    ("most", [0x1B73_1C98_330F_D621, 0xBB6E_DF02_60CA_EE57]),
+    ("edge65536", [0xD537_B9CD_AB79_4E07, 0x6EA6_4C0A_B238_1E7E]),
+    ("edge65537", [0x203B_B943_4DD7_7CDD, 0x241D_3BF3_2D7E_7F30]),
+    ("empty", [0x8772_6BD5_5B40_2295, 0xA5E1_450A_7164_08CB]),
+    ("leading", [0xCF75_57BA_B280_574F, 0x1E5A_CCCD_30EE_E0EF]),
+    ("one", [0x781D_308B_7871_180C, 0x28AE_5132_1376_7385]),
 ];
 
 fn fnv(bytes: &[u8]) -> u64 {
@@ -41,7 +41,7 @@ fn all_records(flavour: &str) -> Vec<Record> {
 }
 
 fn number(record: &Record) -> u32 {
-    check_record(record).map_or_else(Refusal::number, |()| 0)
+    check_record(record, Range::SHORTER).map_or_else(Refusal::number, |()| 0)
 }
 
 /// The record with the spare word and the separations of a sound one.
@@ -49,23 +49,32 @@ fn without_edition_2(record: &Record) -> Record {
     Record { spare: 0, separations: [0; 3], ..*record }
 }
 
+/// The flavours in their three editions; damage may turn the edition, otherwise the name says it.
+fn triples() -> Vec<[&'static str; 3]> {
+    let flavours = flavours();
+    flavours.chunks(3).map(|names| names.try_into().expect("three editions each")).collect()
+}
+
 #[test]
-fn files_of_edition_1_are_what_they_were() {
-    for (flavour, hash) in BEFORE {
-        let file = |seed| generate(seed, flavour).unwrap();
-        assert_eq!(fnv(&[file(1), file(2), file(3)].concat()), hash, "{flavour}");
+fn files_of_editions_1_and_2_are_what_they_were() {
+    for (flavour, hashes) in BEFORE {
+        let names = triples().into_iter().find(|names| names[0] == flavour).expect("a flavour");
+        for (name, hash) in names.into_iter().zip(hashes) {
+            let file = |seed| generate(seed, name).unwrap();
+            assert_eq!(fnv(&[file(1), file(2), file(3)].concat()), hash, "{name}");
+        }
     }
 }
 
 #[test]
-fn every_flavour_is_made_in_both_editions() {
-    assert_eq!(flavours().len(), 2 * BEFORE.len());
-    for (pair, before) in flavours().chunks(2).zip(BEFORE) {
-        assert_eq!(pair[0], before.0);
-        assert!(pair[1].starts_with(pair[0]) && pair[1].ends_with('2'));
-        // Damage may turn the edition; otherwise the name says it.
-        let damage = ["damaged", "truncated", "edge65536", "edge65537"].contains(&pair[0]);
-        for (flavour, edition) in pair.iter().zip([Edition::One, Edition::Two]) {
+fn every_flavour_is_made_in_every_edition() {
+    assert_eq!(triples().len(), BEFORE.len() + 1);
+    for names in triples() {
+        for (name, number) in names.into_iter().zip(["", "2", "3"]) {
+            assert!(name.starts_with(names[0]) && name.ends_with(number));
+        }
+        let damage = ["damaged", "truncated", "edge65536", "edge65537"].contains(&names[0]);
+        for (flavour, edition) in names.iter().zip(Edition::ALL) {
             let opened =
                 files(flavour, 16).iter().filter_map(|file| open(file).ok()).collect::<Vec<_>>();
             assert!(!opened.is_empty(), "{flavour}");
@@ -75,7 +84,7 @@ fn every_flavour_is_made_in_both_editions() {
 }
 
 #[test]
-fn separations_differ_in_edition_2_alone() {
+fn separations_differ_behind_edition_1() {
     for flavour in ["tiny", "full", "degenerate", "extreme", "budget", "queue", "mixed"] {
         let differing = |flavour: &str| {
             let records = all_records(flavour);
@@ -83,8 +92,10 @@ fn separations_differ_in_edition_2_alone() {
             (records.iter().filter(differ).count(), records.len())
         };
         assert_eq!(differing(flavour).0, 0);
-        let (differ, all) = differing(&format!("{flavour}2"));
-        assert!(4 * differ >= all && differ < all, "{flavour}2: {differ} of {all}");
+        for flavour in ["2", "3"].map(|number| format!("{flavour}{number}")) {
+            let (differ, all) = differing(&flavour);
+            assert!(4 * differ >= all && differ < all, "{flavour}: {differ} of {all}");
+        }
     }
 }
 
@@ -125,9 +136,11 @@ fn damage_crosses_the_editions() {
     for edition in [1, 2] {
         assert!([0, 12].iter().all(|n| numbers(&|file| byte(file) == edition).contains(n)));
     }
-    for edition in [0, 3, 255] {
+    for edition in [0, 255] {
         assert!(numbers(&|file| byte(file) == edition).contains(&10));
     }
+    // Edition 3 has edition 2's size.
+    assert!([0, 12].iter().all(|n| numbers(&|file| byte(file) == 3).contains(n)));
 }
 
 #[test]
@@ -145,7 +158,7 @@ fn sizes_are_exact() {
 #[test]
 fn few_queries_bring_what_edition_2_adds() {
     for seed in 1..=5 {
-        let text = queries(seed, 60);
+        let text = queries(seed, 60, Edition::Two);
         let lines: Vec<Vec<i64>> = text
             .lines()
             .map(|line| line.split(' ').map(|n| n.parse().unwrap()).collect())

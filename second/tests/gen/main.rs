@@ -4,8 +4,10 @@ mod bodies;
 #[path = "../common/mod.rs"]
 mod common;
 mod edition2;
+mod edition3;
 
-use common::records;
+use common::{ranged, records};
+use second::edition::{Edition, Range};
 use second::file::{fetch, open};
 use second::gen::{flavours, generate, queries::queries, words::words};
 use second::record::Record;
@@ -19,9 +21,9 @@ fn files(flavour: &str) -> Vec<Vec<u8>> {
     common::files(flavour, SEEDS)
 }
 
-/// The flavours of these names in both editions.
-fn both(names: &[&str]) -> Vec<String> {
-    names.iter().flat_map(|name| [name.to_string(), format!("{name}2")]).collect()
+/// The flavours of these names in every edition.
+fn each(names: &[&str]) -> Vec<String> {
+    names.iter().flat_map(|name| ["", "2", "3"].map(|number| format!("{name}{number}"))).collect()
 }
 
 /// The numbers 8 to 12 that opening the files of a flavour gives, 0 for an opened one.
@@ -49,7 +51,7 @@ fn seed_and_flavour_decide_the_file() {
 
 #[test]
 fn shapes_are_valid_files_of_valid_records() {
-    for flavour in both(&["tiny", "full", "degenerate", "extreme", "budget", "queue"]) {
+    for flavour in each(&["tiny", "full", "degenerate", "extreme", "budget", "queue"]) {
         for file in files(&flavour) {
             let count = open(&file).unwrap().count;
             assert!((10..=40).contains(&count));
@@ -61,9 +63,9 @@ fn shapes_are_valid_files_of_valid_records() {
 #[test]
 fn shapes_bring_every_word_but_floor() {
     let mut seen = [0; 3];
-    for flavour in both(&["tiny", "full", "degenerate", "extreme"]) {
-        for record in files(&flavour).iter().flat_map(|file| records(file)) {
-            match search(&record, 4096) {
+    for flavour in each(&["tiny", "full", "degenerate", "extreme"]) {
+        for (record, range) in files(&flavour).iter().flat_map(|file| ranged(file)) {
+            match search(&record, range, 4096) {
                 Answer::Met(_) => seen[0] += 1,
                 Answer::Clear { .. } => seen[1] += 1,
                 Answer::Spent(_) => seen[2] += 1,
@@ -73,57 +75,67 @@ fn shapes_bring_every_word_but_floor() {
         assert!(seen.iter().all(|number| *number >= 20), "{flavour} {seen:?}");
         seen = [0; 3];
     }
-    for queue in both(&["queue"]).iter().map(|name| files(name)) {
-        assert!(queue.iter().flat_map(|file| records(file)).any(|r| is_room(search(&r, 4096))));
+    for queue in each(&["queue"]).iter().map(|name| files(name)) {
+        let mut queries = queue.iter().flat_map(|file| ranged(file));
+        assert!(queries.any(|(record, range)| is_room(search(&record, range, 4096))));
     }
 }
 
 #[test]
 fn budgets_stand_on_both_sides_of_an_answer() {
     let mut turns = 0;
-    for file in both(&["budget"]).iter().flat_map(|name| files(name)) {
-        for pair in records(&file).windows(2) {
-            let spent = |record| matches!(search(record, 4096), Answer::Spent(_));
-            let next = Record { budget: pair[0].budget + 1, id: pair[1].id, ..pair[0] };
-            turns += usize::from(next == pair[1] && spent(&pair[0]) && !spent(&pair[1]));
+    for file in each(&["budget"]).iter().flat_map(|name| files(name)) {
+        for pair in ranged(&file).windows(2) {
+            let [(one, range), (other, _)] = pair else { panic!("two records") };
+            let spent = |record| matches!(search(record, *range, 4096), Answer::Spent(_));
+            // Each is moved out by itself in edition 3.
+            let Record { id, start, end, .. } = *other;
+            let next = Record { budget: one.budget + 1, id, start, end, ..*one };
+            turns += usize::from(next == *other && spent(one) && !spent(other));
         }
     }
-    assert!(turns >= 2 * SEEDS as usize, "{turns}");
+    assert!(turns >= 3 * SEEDS as usize, "{turns}");
 }
 
 #[test]
 fn peak_is_the_exact_need_of_the_queue() {
-    let queues = both(&["queue"]).into_iter().flat_map(|name| files(&name));
-    for record in queues.flat_map(|file| records(&file)) {
-        let (answer, trace) = search_traced(&record, 1 << 20);
+    let queues = each(&["queue"]).into_iter().flat_map(|name| files(&name));
+    for (record, range) in queues.flat_map(|file| ranged(&file)) {
+        let (answer, trace) = search_traced(&record, range, 1 << 20);
         assert!(trace.peak >= 2);
-        assert_eq!(search(&record, 2 * trace.peak), answer);
-        assert!(is_room(search(&record, 2 * trace.peak - 1)));
+        assert_eq!(search(&record, range, 2 * trace.peak), answer);
+        assert!(is_room(search(&record, range, 2 * trace.peak - 1)));
     }
 }
 
 #[test]
-fn widths_of_2_to_63_are_among_the_extreme() {
-    let m = 1_048_576;
-    let wide = |record: &Record| {
+fn greatest_widths_are_among_the_extreme() {
+    let wide = |record: &Record, m: i32| {
         (0..3).any(|axis| {
             let starts = [0, 1, 2, 3].map(|n| record.start[n][axis]);
             let ends = [0, 1, 2, 3].map(|n| -record.end[n][axis]);
             starts == ends && (starts == [m, m, -m, -m] || starts == [-m, -m, m, m])
         })
     };
-    assert!(files("extreme").iter().flat_map(|file| records(file)).any(|r| wide(&r)));
+    for (flavour, most) in
+        [("extreme", 1_048_576), ("extreme2", 1_048_576), ("extreme3", 2_097_152)]
+    {
+        let records = files(flavour).into_iter().flat_map(|file| records(&file));
+        assert!(records.filter(|record| wide(record, most)).count() > 20);
+    }
 }
 
 #[test]
 fn refusals_are_all_there() {
-    let mut seen = [0; 7];
-    for record in files("refusals").iter().flat_map(|file| records(file)) {
-        if let Answer::Refused(refusal) = search(&record, 4096) {
-            seen[refusal.number() as usize] += 1;
+    for flavour in each(&["refusals"]) {
+        let mut seen = [0; 7];
+        for (record, range) in files(&flavour).iter().flat_map(|file| ranged(file)) {
+            if let Answer::Refused(refusal) = search(&record, range, 4096) {
+                seen[refusal.number() as usize] += 1;
+            }
         }
+        assert!(seen[1..].iter().all(|number| *number > 0), "{flavour} {seen:?}");
     }
-    assert!(seen[1..].iter().all(|number| *number > 0), "{seen:?}");
 }
 
 #[test]
@@ -132,6 +144,14 @@ fn damage_is_of_every_sort() {
     assert_eq!(opened("truncated"), [0, 8, 9, 12]);
     assert_eq!(opened("empty"), [0, 8, 12]);
     assert_eq!(opened("leading"), [0]);
+    let of_three = [
+        ("damaged3", &[0, 9, 10, 11, 12][..]),
+        ("truncated3", &[0, 9, 12]),
+        ("empty3", &[0, 8, 12]),
+    ];
+    for (flavour, numbers) in of_three {
+        assert!(numbers.iter().all(|number| opened(flavour).contains(number)), "{flavour}");
+    }
 }
 
 #[test]
@@ -161,7 +181,7 @@ fn lengths_worth_trying() {
         assert!(lengths.windows(2).all(|pair| pair[0] < pair[1]));
     }
     let first = fetch(&generate(5, "queue").unwrap(), 0).unwrap();
-    let need = 2 * search_traced(&first, 1 << 20).1.peak;
+    let need = 2 * search_traced(&first, Range::SHORTER, 1 << 20).1.peak;
     let lengths = words(5, "queue").unwrap();
     assert!((need - 2..=need + 1).all(|length| lengths.contains(&length)));
     assert_eq!(words(5, "no such flavour"), None);
@@ -188,8 +208,12 @@ fn query(numbers: &[i64]) -> (usize, Record) {
 
 #[test]
 fn queries_tell_the_answer_and_bring_every_sort() {
+    [Edition::Two, Edition::Three].into_iter().for_each(tell_the_answer_and_bring_every_sort);
+}
+
+fn tell_the_answer_and_bring_every_sort(edition: Edition) {
     let (mut words_seen, mut refusals_seen) = ([0; 6], [0; 8]);
-    for line in queries(1, 2000).lines() {
+    for line in queries(1, 2000, edition).lines() {
         let numbers: Vec<i64> = line.split(' ').map(|n| n.parse().unwrap()).collect();
         assert_eq!(numbers.len(), 43);
         let (words, record) = query(&numbers);
@@ -199,7 +223,7 @@ fn queries_tell_the_answer_and_bring_every_sort() {
         if word == "REFUSED" {
             expected = format!("9 REFUSED {}\n", numbers[42]);
         }
-        assert_eq!(second::text::line(9, &search(&record, words)), expected);
+        assert_eq!(second::text::line(9, &search(&record, edition.range(), words)), expected);
         assert!(count <= 60);
         words_seen[numbers[36] as usize] += 1;
         refusals_seen[numbers[42] as usize] += 1;

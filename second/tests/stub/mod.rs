@@ -11,82 +11,112 @@ macro_rules! faults {
 }
 
 pub mod bodies;
+pub mod ranges;
 pub mod why;
 pub mod writing;
 
 use second::beside::Library;
-use second::edition::Edition;
-use second::file::{record_at, Opened};
+use second::edition::{Edition, Range};
+use second::file::{record_at, Opened, TRAILER_BYTES};
 use second::refusals::Refusal;
 use second::search::search;
 use second::told::told;
+use std::borrow::Cow;
 use std::slice::{from_raw_parts, from_raw_parts_mut};
 
 faults! {
     None CountOneMore ExcessOneLess LastWordLeft ClearedThoughRefused BeyondTold
     BeyondQueue WrittenThoughShort WrongNumber StopsAtRefused IndexCutTo32Bits SpaceBeforeIndex
     IdOfTheFirst CountUnwritten SeparationOfX SpareIgnored EditionOneAlone
+    EditionThreeRefused EditionFourTaken PartsNotDoubled OnlyTDoubled
 }
 
 /// The library with fault number N of the list.
 pub fn library<const N: usize>() -> Library {
     Library {
-        answer: answer::<N>,
-        answers: answers::<N>,
+        answer: answer::<N, 0>,
+        answers: answers::<N, 0>,
         count: count::<N>,
-        copy: writing::copy::<0>,
+        ..ranged_library::<0>()
+    }
+}
+
+/// The library with fault number R of the list of ranges.
+pub fn ranged_library<const R: usize>() -> Library {
+    Library {
+        answer: answer::<0, R>,
+        answers: answers::<0, R>,
+        count: count::<0>,
+        copy: writing::copy::<0, R>,
         trailer: writing::trailer::<0>,
-        bodies: bodies::bodies::<0, false>,
-        why: why::why::<0>,
+        bodies: bodies::bodies::<0, R, false>,
+        why: why::why::<0, R>,
     }
 }
 
 /// The library with fault number N of the writers' list.
 pub fn writing_library<const N: usize>() -> Library {
-    Library { copy: writing::copy::<N>, trailer: writing::trailer::<N>, ..library::<0>() }
+    Library { copy: writing::copy::<N, 0>, trailer: writing::trailer::<N>, ..library::<0>() }
 }
 
 /// The library with fault number N of the bodies' list.
 pub fn bodies_library<const N: usize>() -> Library {
-    Library { bodies: bodies::bodies::<N, false>, ..library::<0>() }
+    Library { bodies: bodies::bodies::<N, 0, false>, ..library::<0>() }
 }
 
 /// The library with fault number N of the list of `why`.
 pub fn why_library<const N: usize>() -> Library {
-    Library { why: why::why::<N>, ..library::<0>() }
+    Library { why: why::why::<N, 0>, ..library::<0>() }
 }
 
 /// The same where every query is clear by a million boxes.
 pub fn crowded_library<const N: usize>() -> Library {
-    Library { bodies: bodies::bodies::<N, true>, ..library::<0>() }
+    Library { bodies: bodies::bodies::<N, 0, true>, ..library::<0>() }
 }
 
 /// The eight numbers of record n, with the fault.
-fn record(fault: Fault, file: &[u8], n: u32, words: usize) -> [u32; 8] {
-    let mut record = record_at(file, n).unwrap();
+fn record<const R: usize>(fault: Fault, file: &[u8], n: u32, words: usize) -> [u32; 8] {
+    let (mut record, range) = record_at(file, n).unwrap();
     match fault {
         Fault::SeparationOfX => record.separations = [record.separations[0]; 3],
         Fault::SpareIgnored => record.spare = 0,
         _ => {}
     }
     let mut numbers = [record.id; 8];
-    numbers[1..].copy_from_slice(&told(&search(&record, words)));
+    numbers[1..].copy_from_slice(&told(&search(&record, ranges::ranged::<R>(range), words)));
     match fault {
         Fault::CountOneMore if numbers[6] > 5 => numbers[6] += 1,
         Fault::ExcessOneLess if numbers[5] > 1 => numbers[5] -= 1,
-        Fault::IdOfTheFirst => numbers[0] = record_at(file, 0).unwrap().id,
+        Fault::IdOfTheFirst => numbers[0] = record_at(file, 0).unwrap().0.id,
+        Fault::PartsNotDoubled if range == Range::LONGER => halve(&mut numbers[2..5]),
+        Fault::OnlyTDoubled if range == Range::LONGER => halve(&mut numbers[3..5]),
         _ => {}
     }
     numbers
 }
 
+/// Parts as they are counted where the greatest depth is 19.
+fn halve(parts: &mut [u32]) {
+    parts.iter_mut().for_each(|part| *part /= 2);
+}
+
+/// The file as the faulty library reads it.
+fn read(fault: Fault, file: &[u8]) -> Cow<'_, [u8]> {
+    let place = file.len().checked_sub(TRAILER_BYTES - 4);
+    match place.filter(|place| fault == Fault::EditionFourTaken && file[*place] == 4) {
+        Some(place) => Cow::Owned([&file[..place], &[3], &file[place + 1..]].concat()),
+        None => Cow::Borrowed(file),
+    }
+}
+
 /// The file opened, with the fault.
 fn open(fault: Fault, file: &[u8]) -> Result<Opened, Refusal> {
     let opened = second::file::open(file)?;
-    if fault == Fault::EditionOneAlone && opened.edition == Edition::Two {
-        return Err(Refusal::Edition);
+    match fault {
+        Fault::EditionOneAlone if opened.edition != Edition::One => Err(Refusal::Edition),
+        Fault::EditionThreeRefused if opened.edition == Edition::Three => Err(Refusal::Edition),
+        _ => Ok(opened),
     }
-    Ok(opened)
 }
 
 fn number(fault: Fault, number: u32) -> u32 {
@@ -109,7 +139,7 @@ fn clear(fault: Fault, queue: *mut u64, words: usize, any: bool) {
     }
 }
 
-unsafe extern "C" fn answers<const N: usize>(
+unsafe extern "C" fn answers<const N: usize, const R: usize>(
     file: *const u8,
     file_len: usize,
     queue: *mut u64,
@@ -117,9 +147,10 @@ unsafe extern "C" fn answers<const N: usize>(
     told: *mut u32,
     lent: usize,
 ) -> u32 {
-    let (fault, file) = (FAULTS[N], from_raw_parts(file, file_len));
+    let fault = FAULTS[N];
+    let file = read(fault, from_raw_parts(file, file_len));
     let told = from_raw_parts_mut(told, lent);
-    let opened = match open(fault, file) {
+    let opened = match open(fault, &file) {
         Ok(opened) => opened,
         Err(refusal) => return number(fault, refusal.number()),
     };
@@ -131,7 +162,7 @@ unsafe extern "C" fn answers<const N: usize>(
     }
     let mut any = false;
     for n in 0..opened.count {
-        let numbers = record(fault, file, n, words);
+        let numbers = record::<R>(fault, &file, n, words);
         let at = 8 * n as usize;
         told[at..at + 8].copy_from_slice(&numbers);
         any |= numbers[1] != 0;
@@ -147,7 +178,7 @@ unsafe extern "C" fn answers<const N: usize>(
     0
 }
 
-unsafe extern "C" fn answer<const N: usize>(
+unsafe extern "C" fn answer<const N: usize, const R: usize>(
     file: *const u8,
     file_len: usize,
     n: usize,
@@ -156,8 +187,9 @@ unsafe extern "C" fn answer<const N: usize>(
     told: *mut u32,
     lent: usize,
 ) -> u32 {
-    let (fault, file) = (FAULTS[N], from_raw_parts(file, file_len));
-    let opened = match open(fault, file) {
+    let fault = FAULTS[N];
+    let file = read(fault, from_raw_parts(file, file_len));
+    let opened = match open(fault, &file) {
         Ok(opened) => opened,
         Err(refusal) => return number(fault, refusal.number()),
     };
@@ -171,7 +203,7 @@ unsafe extern "C" fn answer<const N: usize>(
     if lent < 8 {
         return 14;
     }
-    let numbers = record(fault, file, n as u32, words);
+    let numbers = record::<R>(fault, &file, n as u32, words);
     from_raw_parts_mut(told, lent)[..8].copy_from_slice(&numbers);
     clear(fault, queue, words, numbers[1] != 0);
     0
@@ -184,7 +216,7 @@ unsafe extern "C" fn count<const N: usize>(
     lent: usize,
 ) -> u32 {
     let fault = FAULTS[N];
-    match open(fault, from_raw_parts(file, file_len)) {
+    match open(fault, &read(fault, from_raw_parts(file, file_len))) {
         Err(refusal) => number(fault, refusal.number()),
         Ok(_) if lent == 0 => 14,
         Ok(opened) => {

@@ -1,21 +1,24 @@
 //! The writers of the stub, right or with one fault.
 
-use second::edition::Edition;
+use super::ranges::ranged;
+use second::edition::{Edition, Range};
 use second::file::{record_at, MOST_RECORDS, TRAILER_BYTES};
 use second::record::Record;
-use second::refusals::{check_record, check_to_write, Refusal};
+use second::refusals::{check_record, check_within, Refusal};
 use std::slice::{from_raw_parts, from_raw_parts_mut};
 
 faults! {
     None
     ByteBeyond ByteBefore WrittenThoughShort SpaceOneByteLate SpaceOneByteEarly PlaceAndSizeWrap
-    PlaceCutTo32Bits IndexCutTo32Bits LayoutOfEditionOne EditionThreeTaken EditionBeforeRecord
+    PlaceCutTo32Bits IndexCutTo32Bits LayoutOfEditionOne EditionFourTaken EditionBeforeRecord
     SpaceBeforeEdition SpaceBeforeRecord SeparationAfterSpace SeparationBeforeFetch
     UnequalWrittenAsX RecordUnchecked FlagCleared ZeroBytesLeft
     TrailerByteBeyond TrailerWrittenThoughShort TrailerSpaceOneByteLate TrailerPlaceAndSizeWrap
-    TrailerOfAnotherCount TrailerOfEditionOne TrailerEditionThreeTaken TrailerZeroBytesLeft
+    TrailerOfAnotherCount TrailerOfEditionOne TrailerEditionFourTaken TrailerZeroBytesLeft
     BackOfEditionOne BackCutTo16Bits BackBeforeCount CountBeforeEdition SpaceBeforeBack
     BytesBeforeUpToTheEnd MostRecordsRefused OneRecordMoreTaken
+    EditionThreeRefused SourceRangeKept TargetRangeAlone LongerRangeForNone
+    TrailerEditionThreeRefused TrailerOfEditionTwo
 }
 
 fn number<T>(result: Result<T, Refusal>) -> u32 {
@@ -66,7 +69,7 @@ impl Room {
     }
 }
 
-pub unsafe extern "C" fn copy<const N: usize>(
+pub unsafe extern "C" fn copy<const N: usize, const R: usize>(
     file: *const u8,
     file_len: usize,
     n: usize,
@@ -77,14 +80,15 @@ pub unsafe extern "C" fn copy<const N: usize>(
 ) -> u32 {
     let (fault, file) = (FAULTS[N], from_raw_parts(file, file_len));
     let n = if fault == Fault::IndexCutTo32Bits { n as u32 as usize } else { n };
-    let edition = if fault == Fault::EditionThreeTaken && edition == 3 { 2 } else { edition };
+    let edition = if fault == Fault::EditionFourTaken && edition == 4 { 3 } else { edition };
     let at = if fault == Fault::PlaceCutTo32Bits { at as u32 as usize } else { at };
-    let record = match record_at(file, u32::try_from(n).unwrap_or(u32::MAX)) {
-        Ok(record) => changed(fault, edition, record),
+    let (record, source) = match record_at(file, u32::try_from(n).unwrap_or(u32::MAX)) {
+        Ok((record, range)) => (changed(fault, edition, record), range),
         Err(refusal) => return refusal.number(),
     };
     let room = Room { out, lent, at };
-    let number = copy_refusal(fault, &record, edition, &room);
+    let ranges = ranges(fault, source, edition).map(ranged::<R>);
+    let number = copy_refusal(fault, &record, ranges, edition, &room);
     let bytes = Edition::of(edition).map_or(Vec::new(), |edition| record.bytes(edition));
     if number == 0 {
         put_record(fault, &record, &bytes, &room);
@@ -104,7 +108,24 @@ fn changed(fault: Fault, edition: u8, record: Record) -> Record {
     }
 }
 
-fn copy_refusal(fault: Fault, record: &Record, edition: u8, room: &Room) -> u32 {
+/// By which a record is fetched and by which it is written.
+fn ranges(fault: Fault, source: Range, edition: u8) -> [Range; 2] {
+    let target = Range::of(edition);
+    match fault {
+        Fault::SourceRangeKept => [source; 2],
+        Fault::TargetRangeAlone => [target; 2],
+        Fault::LongerRangeForNone if Edition::of(edition).is_err() => [source, Range::LONGER],
+        _ => [source, target],
+    }
+}
+
+fn copy_refusal(
+    fault: Fault,
+    record: &Record,
+    [source, target]: [Range; 2],
+    edition: u8,
+    room: &Room,
+) -> u32 {
     let (size, bytes) = (size(edition), room.bytes());
     let space = room.space(match fault {
         Fault::SpaceOneByteLate => bytes + 1 < size,
@@ -112,8 +133,10 @@ fn copy_refusal(fault: Fault, record: &Record, edition: u8, room: &Room) -> u32 
         Fault::PlaceAndSizeWrap => room.at.wrapping_add(size) > room.lent,
         _ => bytes < size,
     });
-    let [fetched, of_record] = [check_record(record), check_to_write(record, edition)].map(number);
-    let edition = number(Edition::of(edition));
+    let of_record = number(check_within(record, target, edition == 1));
+    let fetched = number(check_record(record, source));
+    let refused = fault == Fault::EditionThreeRefused && edition == 3;
+    let edition = if refused { 10 } else { number(Edition::of(edition)) };
     match fault {
         Fault::EditionBeforeRecord => first([edition, fetched, of_record, space]),
         Fault::SpaceBeforeEdition => first([fetched, of_record, space, edition]),
@@ -149,8 +172,11 @@ pub unsafe extern "C" fn trailer<const N: usize>(
     count: u32,
 ) -> u32 {
     let (fault, room) = (FAULTS[N], Room { out, lent, at });
-    let edition =
-        if fault == Fault::TrailerEditionThreeTaken && edition == 3 { 2 } else { edition };
+    let edition = match (fault, edition) {
+        (Fault::TrailerEditionFourTaken, 4) => 3,
+        (Fault::TrailerEditionThreeRefused, 3) => 4,
+        _ => edition,
+    };
     let number = trailer_refusal(fault, edition, count, &room);
     let bytes =
         Edition::of(edition).map_or([0; 16], |edition| trailer_bytes(fault, edition, count));
@@ -193,7 +219,11 @@ fn trailer_refusal(fault: Fault, edition: u8, count: u32, room: &Room) -> u32 {
 }
 
 fn trailer_bytes(fault: Fault, edition: Edition, count: u32) -> [u8; TRAILER_BYTES] {
-    let edition = if fault == Fault::TrailerOfEditionOne { Edition::One } else { edition };
+    let edition = match fault {
+        Fault::TrailerOfEditionOne => Edition::One,
+        Fault::TrailerOfEditionTwo if edition == Edition::Three => Edition::Two,
+        _ => edition,
+    };
     let back = (edition.record_bytes() as u32).wrapping_mul(count);
     let right = |back| second::file::trailer(edition, back, count);
     match fault {

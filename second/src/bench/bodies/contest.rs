@@ -9,6 +9,7 @@ use crate::bench::same::Same;
 use crate::bench::table::{self, Head};
 use crate::beside::Library;
 use crate::bodies::{Bodies, MOST_TRIANGLES, QUERIES};
+use crate::edition::Edition;
 use std::hint::black_box;
 
 const WORDS: [&str; 6] = ["REFUSED", "MET", "CLEAR", "SPENT", "ROOM", "FLOOR"];
@@ -26,24 +27,33 @@ const GROWTH: [Head; 7] = [
 /// Two bodies, a queue and told, as the library takes them.
 type Walked<'a> = Box<dyn Fn(&Bodies, &mut [u64], &mut [u32]) -> u32 + 'a>;
 
-/// Says the figures of every class; false where some answers are not the same.
-pub fn run(library: &Library, seed: u64, words: usize) -> bool {
-    let classes = Class::all(seed);
-    let bodies = classes.iter().flat_map(|class| COUNTS.map(|count| (class, count)));
-    for (class, count) in bodies.clone() {
+/// Says the figures of every class of an edition; false where some answers are not the same.
+pub fn run(library: &Library, edition: Edition, seed: u64, words: usize) -> bool {
+    let classes = Class::all(seed, edition);
+    for (class, count) in of_each_count(&classes) {
         if !alike(library, &class.bodies(count), words) {
             println!("{}, {count} triangles: the answers are not the same", class.name);
             return false;
         }
     }
-    println!("\nbodies: {MOST_TRIANGLES} by {MOST_TRIANGLES} triangles");
+    let edition = edition.number();
+    println!("\nbodies, edition {edition}: {MOST_TRIANGLES} by {MOST_TRIANGLES} triangles");
     for class in &classes {
         show(library, class, words);
     }
-    let rows = bodies.map(|(class, count)| grow(library, class, count, words));
+    true
+}
+
+/// Says how the times go up with the triangles.
+pub fn growth(library: &Library, edition: Edition, seed: u64, words: usize) {
+    let classes = Class::all(seed, edition);
+    let rows = of_each_count(&classes).map(|(class, count)| grow(library, class, count, words));
     println!("\nbodies by their triangles, milliseconds a walk and nanoseconds a pair");
     table::print(&GROWTH, &rows.collect::<Vec<_>>());
-    true
+}
+
+fn of_each_count(classes: &[Class]) -> impl Iterator<Item = (&Class, usize)> {
+    classes.iter().flat_map(|class| COUNTS.map(|count| (class, count)))
 }
 
 /// Those measured.

@@ -1,6 +1,8 @@
 //! A gangway and a ship's side of 256 triangles each, far apart, near each other, and touching.
 
+use crate::bench::berth::middle;
 use crate::bodies::{Bodies, Body, MOST_TRIANGLES, NUMBERS};
+use crate::edition::Edition;
 use crate::rng::Rng;
 
 /// Units of a centimetre.
@@ -23,6 +25,7 @@ pub const SEPARATIONS: [u32; 3] = [400, 400, 400];
 /// Two bodies of one sort.
 pub struct Class {
     pub name: &'static str,
+    edition: Edition,
     /// A at the start and at the end, then B.
     positions: [[Vec<i32>; 2]; 2],
 }
@@ -34,13 +37,16 @@ struct Heights {
 }
 
 impl Class {
-    pub fn all(seed: u64) -> [Class; 3] {
+    pub fn all(seed: u64, edition: Edition) -> [Class; 3] {
         let mut rng = Rng::new(seed, "bodies of the bench");
         let far = Heights { ends: [800, 700], a_row: 0 };
         let near = Heights { ends: [30, 16], a_row: 0 };
         let touching = Heights { ends: [40, -8], a_row: 12 };
-        [("far apart", far), ("near", near), ("touching", touching)]
-            .map(|(name, heights)| Class { name, positions: bodies(&mut rng, &heights) })
+        let middle = middle(edition.range());
+        [("far apart", far), ("near", near), ("touching", touching)].map(|(name, heights)| {
+            let positions = bodies(&mut rng, &heights, middle);
+            Class { name, edition, positions }
+        })
     }
 
     /// The first so many triangles of both.
@@ -50,25 +56,26 @@ impl Class {
             start: &start[..NUMBERS * count],
             end: &end[..NUMBERS * count],
         });
-        Bodies { a, b, separations: SEPARATIONS, tolerance: TOLERANCE, budget: BUDGET }
+        let (separations, tolerance, budget) = (SEPARATIONS, TOLERANCE, BUDGET);
+        Bodies { edition: self.edition.number(), a, b, separations, tolerance, budget }
     }
 }
 
 /// The gangway comes down by the heights; the ship heaves and surges a little.
-fn bodies(rng: &mut Rng, heights: &Heights) -> [[Vec<i32>; 2]; 2] {
+fn bodies(rng: &mut Rng, heights: &Heights, middle: i32) -> [[Vec<i32>; 2]; 2] {
     let (heave, surge) = (rng.between(-400, 400), rng.between(-200, 200));
     // Not in line with the ship's cells.
     let shift = [CELL / 3, CELL / 5];
     let above = |end: usize, row: i32| CENTIMETRE * (heights.ends[end] + heights.a_row * row);
     let gangway = [0, 1].map(|end| {
         plate(|column, row| {
-            let (x, y) = (shift[0] + CELL * column, shift[1] + CELL * row);
+            let (x, y) = (middle + shift[0] + CELL * column, shift[1] + CELL * row);
             [x, y, above(end, row) + RISE * row + RISE / 5]
         })
     });
     let hull = [0, 1].map(|end| {
         let (along, up) = if end == 0 { (0, 0) } else { (surge, heave) };
-        plate(|column, row| [CELL * column + along, CELL * row, RISE * row + up])
+        plate(|column, row| [middle + CELL * column + along, CELL * row, RISE * row + up])
     });
     // One unevenness a corner, the same at both ends.
     [gangway, hull].map(|ends| {

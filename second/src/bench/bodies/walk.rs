@@ -8,9 +8,9 @@ use crate::bench::motion::{Asked, Points, Terms};
 use crate::bench::plain::Plain;
 use crate::bench::same::Same;
 use crate::bodies::{Bodies, Body, Triangle, MOST_TRIANGLES, NUMBERS, QUERIES};
+use crate::edition::{Edition, Range};
 use crate::record::Point;
-use crate::refusals::{check_words, LEAST_TOLERANCE, MOST_BUDGET, MOST_COORDINATE};
-use crate::refusals::{MOST_SEPARATION, MOST_TOLERANCE};
+use crate::refusals::{check_words, Refusal, MOST_BUDGET, MOST_SEPARATION, MOST_TOLERANCE};
 
 const BODY: u32 = 21;
 const SPACE: u32 = 14;
@@ -71,13 +71,15 @@ impl Way for Fast {
 
 /// As `taperhive_bodies`.
 pub fn bodies<W: Way>(bodies: &Bodies, queue: &mut [u64], told: &mut [u32]) -> u32 {
-    let number = refusal(bodies, queue.len());
+    let Ok(edition) = Edition::of(bodies.edition) else { return Refusal::Edition.number() };
+    let range = edition.range();
+    let number = refusal(bodies, &range, queue.len());
     if number != 0 {
         return number;
     }
     let Some(told) = told.first_chunk_mut::<8>() else { return SPACE };
-    let Bodies { a, b, separations, tolerance, budget } = *bodies;
-    let terms = Terms { separations, tolerance, budget };
+    let Bodies { a, b, separations, tolerance, budget, .. } = *bodies;
+    let terms = Terms { deepest: range.deepest, separations, tolerance, budget };
     let mut walk = Walk { terms, queue, sum: 0, least: [CLEAR, u32::MAX, 0, 0, 0, 0] };
     W::pairs(&mut walk, &a, &b);
     *told = walk.told();
@@ -86,8 +88,9 @@ pub fn bodies<W: Way>(bodies: &Bodies, queue: &mut [u64], told: &mut [u32]) -> u
 }
 
 /// The checks in one pass: 21, the first query's coordinates, what all share, every other coordinate; 0 for none.
-fn refusal(bodies: &Bodies, words: usize) -> u32 {
+fn refusal(bodies: &Bodies, range: &Range, words: usize) -> u32 {
     let Bodies { a, b, .. } = bodies;
+    let is_outside = |list: &[i32]| is_outside(list, range);
     if is_no_body(a) || is_no_body(b) {
         return BODY;
     }
@@ -98,7 +101,7 @@ fn refusal(bodies: &Bodies, words: usize) -> u32 {
     if bodies.separations.iter().any(|d| *d > MOST_SEPARATION) {
         return 4;
     }
-    if !(LEAST_TOLERANCE..=MOST_TOLERANCE).contains(&bodies.tolerance) {
+    if !(range.least_tolerance..=MOST_TOLERANCE).contains(&bodies.tolerance) {
         return 5;
     }
     if !(1..=MOST_BUDGET).contains(&bodies.budget) {
@@ -121,9 +124,8 @@ fn is_no_body(body: &Body) -> bool {
     !in_range || body.start.len() != length || body.end.len() != length
 }
 
-fn is_outside(coordinates: &[i32]) -> bool {
-    let outside = |coordinate: &i32| !(-MOST_COORDINATE..=MOST_COORDINATE).contains(coordinate);
-    coordinates.iter().fold(false, |any, coordinate| any | outside(coordinate))
+fn is_outside(coordinates: &[i32], range: &Range) -> bool {
+    coordinates.iter().fold(false, |any, coordinate| any | !range.holds(*coordinate))
 }
 
 /// Triangle n of a body, straight from its lists.

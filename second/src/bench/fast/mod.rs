@@ -3,7 +3,7 @@
 mod slab;
 
 use super::answering::{Answer, ByHand, CLEAR, FLOOR, MET, ROOM, SPENT};
-use super::motion::{parameter, Asked, DEEPEST};
+use super::motion::Asked;
 use super::stored::{is_inside, Recorded, INDEX, SHIFTS};
 use slab::{Leasts, Slab};
 
@@ -46,7 +46,7 @@ impl Search<'_> {
         let mut size = 1;
         let differences = self.asked.differences();
         loop {
-            let parameter = parameter(&differences, &self.slab.depths);
+            let parameter = self.asked.parameter(&differences, &self.slab.depths);
             self.slab.deepen(parameter);
             self.made = 0;
             self.level(SHIFTS[parameter], &present[..size], next)?;
@@ -170,7 +170,7 @@ impl Search<'_> {
         self.recorded = Recorded { word, depths: self.slab.depths };
         let answer = if self.slab.is_near(leasts) {
             MET
-        } else if self.slab.depths == [DEEPEST; 3] {
+        } else if self.slab.depths == [self.asked.deepest; 3] {
             FLOOR
         } else {
             return Ok(());

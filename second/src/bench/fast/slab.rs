@@ -1,6 +1,6 @@
 //! What all boxes of a level with one t index share, and a row of them checked: neighbours in v are one addition apart.
 
-use crate::bench::motion::{between, Asked, Axes, DEEPEST, Q};
+use crate::bench::motion::{Asked, Axes};
 use crate::bench::stored::INDEX;
 
 /// A row of so many boxes is short.
@@ -25,16 +25,16 @@ const NO_MOMENT: Moment = Moment { u_step: [0; 4], v_step: [0; 4], least: [-1; 4
 impl Moment {
     #[inline(always)]
     fn new(asked: &Asked, depths: &[u32; 3], t: u64) -> Moment {
-        let [start, end] = &asked.ends;
-        let t = (t as i64) << (DEEPEST - depths[0]);
+        let [left_t, left_u, left_v] = depths.map(|depth| asked.deepest - depth);
+        let t = (t as i64) << left_t;
         let mut moment = NO_MOMENT;
         for axis in 0..3 {
-            let at = |n: usize| between(start[n][axis], end[n][axis], t);
-            let (b, c) = (at(1) << (DEEPEST - depths[1]), at(2) << (DEEPEST - depths[2]));
+            let at = |n: usize| asked.at(n, axis, t);
+            let (b, c) = (at(1) << left_u, at(2) << left_v);
             let d = asked.separations[axis];
             moment.u_step[axis] = b;
             moment.v_step[axis] = c;
-            moment.least[axis] = at(0) * Q + b.min(0) + c.min(0) - d - 1;
+            moment.least[axis] = (at(0) << asked.deepest) + b.min(0) + c.min(0) - d - 1;
             moment.width[axis] = b.abs() + c.abs() + 2 * d + 1;
         }
         moment

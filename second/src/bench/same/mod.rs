@@ -3,7 +3,7 @@
 mod slab;
 
 use super::answering::{Answer, ByHand, CLEAR, FLOOR, MET, ROOM, SPENT};
-use super::motion::{parameter, Asked, DEEPEST};
+use super::motion::Asked;
 use super::stored::{is_inside, Recorded, INDEX, SHIFTS};
 use slab::{is_near, Strip};
 use std::convert::Infallible;
@@ -49,9 +49,9 @@ impl Search<'_> {
         self.left -= 1;
         present[0] = 0;
         let mut size = 1;
-        let differences = self.asked.differences();
+        let differences = asked.differences();
         loop {
-            let parameter = parameter(&differences, &self.depths);
+            let parameter = asked.parameter(&differences, &self.depths);
             self.depths[parameter] += 1;
             let made = self.split(SHIFTS[parameter], &present[..size], next);
             self.used = self.used.max(made.unwrap_or(half));
@@ -158,7 +158,7 @@ impl Search<'_> {
         self.recorded = Recorded { word, depths: self.depths };
         let answer = if is_near(self.asked, word, strip) {
             MET
-        } else if self.depths == [DEEPEST; 3] {
+        } else if self.depths == [self.asked.deepest; 3] {
             FLOOR
         } else {
             return Ok(());

@@ -1,6 +1,6 @@
 //! What all boxes of a level with one t index share: the bounds of what F changes by their u and v index.
 
-use crate::bench::motion::{between, Asked, DEEPEST, Q};
+use crate::bench::motion::Asked;
 use crate::bench::stored::INDEX;
 
 /// At one end of a t index, on one axis.
@@ -17,10 +17,10 @@ struct Edge {
 impl Edge {
     #[inline(always)]
     fn new(asked: &Asked, depths: &[u32; 3], axis: usize, t: i64) -> Edge {
-        let [start, end] = &asked.ends;
-        let at = |n: usize| between(start[n][axis], end[n][axis], t);
-        let (a, d) = (at(0) * Q, asked.separations[axis]);
-        let (u, v) = (at(1) << (DEEPEST - depths[1]), at(2) << (DEEPEST - depths[2]));
+        let at = |n: usize| asked.at(n, axis, t);
+        let (a, d) = (at(0) << asked.deepest, asked.separations[axis]);
+        let [_, left_u, left_v] = depths.map(|depth| asked.deepest - depth);
+        let (u, v) = (at(1) << left_u, at(2) << left_v);
         Edge { u, v, from: -d - (a + u.max(0) + v.max(0)), to: d - (a + u.min(0) + v.min(0)) }
     }
 
@@ -40,7 +40,8 @@ pub struct Strip {
 impl Strip {
     #[inline(always)]
     pub fn new(asked: &Asked, depths: &[u32; 3], axis: usize, t: u64) -> Strip {
-        let (low, side) = ((t as i64) << (DEEPEST - depths[0]), Q >> depths[0]);
+        let left = asked.deepest - depths[0];
+        let (low, side) = ((t as i64) << left, 1 << left);
         let edge = |t: i64| Edge::new(asked, depths, axis, t);
         Strip { start: edge(low), end: edge(low + side) }
     }

@@ -42,9 +42,9 @@ impl Again for Case {
 
     /// Every number, a line each for what all queries share and for the four lists.
     fn contents(&self) -> (&'static str, Vec<u8>) {
-        let Drawn { separations, tolerance, budget, counts: [a, b], .. } = self.drawn;
-        let mut text =
-            format!("separations {separations:?}, tolerance {tolerance}, budget {budget}\n");
+        let Drawn { edition, separations, tolerance, budget, counts: [a, b], .. } = self.drawn;
+        let mut text = format!("edition {edition}, separations {separations:?}, ");
+        text += &format!("tolerance {tolerance}, budget {budget}\n");
         text += &format!("{a} triangles of A, {b} triangles of B\n");
         for (name, list) in LISTS.iter().zip(self.drawn.positions.as_flattened()) {
             text += &format!("{name}, {} numbers: {list:?}\n", list.len());
@@ -111,11 +111,13 @@ impl<'a> Caller<'a> {
         let code = self.library.bodies(&self.bodies(), queue.slice(), numbers.slice());
         let must = told(answer).map(Vec::from).map_err(Refusal::number);
         let must = must.and_then(|told| if lent < TOLD { Err(SPACE) } else { Ok(told) });
+        self.tally.call(self.drawn.edition);
         match must {
             Err(number) => self.tally.refused(number),
             Ok(_) => self.tally.answered(self.queries(), answer),
         }
-        let call = format!("taperhive_bodies, {words} words, told of {lent}");
+        let edition = self.drawn.edition;
+        let call = format!("taperhive_bodies, edition {edition}, {words} words, told of {lent}");
         let must = Must { answered: must.is_ok(), told: &must };
         self.differences.extend(differences(&call, code, &must, &queue, &numbers));
         self.positions_unchanged(&call);

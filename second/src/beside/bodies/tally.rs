@@ -3,6 +3,7 @@
 use crate::beside::progress::Counts;
 use crate::beside::tally::write_answers;
 use crate::bodies::{BodiesAnswer, Least};
+use crate::edition::Edition;
 use std::fmt;
 
 /// The highest number of a refusal.
@@ -12,7 +13,8 @@ const MOST_NUMBER: usize = 21;
 pub struct Tally {
     cases: u64,
     differing: u64,
-    calls: u64,
+    /// Calls of editions 1, 2 and 3, and of a number that is none's.
+    calls: [u64; Edition::ALL.len() + 1],
     /// Queries of the walks that were compared.
     queries: u64,
     boxes: u64,
@@ -22,21 +24,25 @@ pub struct Tally {
 }
 
 impl Tally {
-    /// A call, and the number that refuses it.
+    /// A call with this edition.
+    pub fn call(&mut self, edition: u8) {
+        let place = Edition::ALL.iter().position(|known| known.number() == edition);
+        self.calls[place.unwrap_or(Edition::ALL.len())] += 1;
+    }
+
+    /// The number that refuses a call.
     pub fn refused(&mut self, number: u32) {
-        self.calls += 1;
         self.words[0] += 1;
         self.refusals[number as usize] += 1;
     }
 
-    /// A call that is answered, by a walk of so many queries.
+    /// The answer to a call, by a walk of so many queries.
     pub fn answered(&mut self, queries: u64, answer: &BodiesAnswer) {
         let (word, boxes) = match *answer {
             BodiesAnswer::Clear { count } => (2, count),
             BodiesAnswer::Least(Least { word, count, .. }) => (word as usize, count),
             BodiesAnswer::Refused(_) => return,
         };
-        self.calls += 1;
         self.queries += queries;
         self.boxes += boxes;
         self.words[word] += 1;
@@ -56,8 +62,10 @@ impl Counts for Tally {
 
 impl fmt::Display for Tally {
     fn fmt(&self, f: &mut fmt::Formatter) -> fmt::Result {
-        let Tally { cases, differing, calls, queries, boxes, .. } = self;
-        write!(f, "{cases} cases, {calls} calls, {queries} queries, {boxes} boxes;")?;
+        let Tally { cases, differing, calls: [one, two, three, none], queries, boxes, .. } = self;
+        write!(f, "{cases} cases, {} calls", one + two + three + none)?;
+        write!(f, " (edition 1: {one}, edition 2: {two}, edition 3: {three}, none: {none})")?;
+        write!(f, ", {queries} queries, {boxes} boxes;")?;
         write_answers(f, &self.words, &self.refusals)?;
         write!(f, "; {differing} cases differ")
     }

@@ -72,7 +72,7 @@ impl Asker<'_> {
     /// One record with one length of queue; one search by the second program serves all points.
     fn record(&mut self, n: usize, words: usize) {
         let record = record_at(self.file.bytes(), record_number(n));
-        let searched = record.and_then(|record| Searched::of(&record, words));
+        let searched = record.and_then(|(record, range)| Searched::of(&record, range, words));
         let searched = searched.as_ref().map_err(|refusal| *refusal);
         let points = searched.ok().map(Points::of);
         let levels = points.as_ref().filter(|_| words <= LONG).map_or(0, Points::levels);

@@ -2,8 +2,10 @@
 
 use super::{positions, tuned, Drawn};
 use crate::bodies::{MOST_TRIANGLES, NUMBERS};
+use crate::edition::Edition;
+use crate::gen::bad::bad_tolerance;
 use crate::gen::dice::Dice;
-use crate::refusals::{MOST_BUDGET, MOST_COORDINATE as M, MOST_SEPARATION, MOST_TOLERANCE};
+use crate::refusals::{MOST_BUDGET, MOST_SEPARATION, MOST_TOLERANCE};
 
 /// Times nine it is 1 in 64 bits: a count of so many lengths wraps round to the length.
 const NINTH: usize = 0x8E38_E38E_38E3_8E39;
@@ -22,8 +24,9 @@ pub fn refused(rng: &mut Dice) -> Drawn {
         at_the_ends(rng, &mut drawn);
         return drawn;
     }
-    // A coordinate alone most often, as there are many places for it.
-    let chosen = if rng.one_in(2) { rng.pick(&[1, 1, 1, 2, 4, 8]) } else { rng.below(16) };
+    // A coordinate alone most often, as there are many places for it; the longer range has a least tolerance of its own.
+    let alone = if rng.edition == Edition::Three { [1, 1, 2, 4, 4, 8] } else { [1, 1, 1, 2, 4, 8] };
+    let chosen = if rng.one_in(2) { rng.pick(&alone) } else { rng.below(16) };
     for number in (3..=6).filter(|number| chosen >> (number - 3) & 1 == 1) {
         spoil(rng, &mut drawn, number);
     }
@@ -40,7 +43,10 @@ fn spoil(rng: &mut Dice, drawn: &mut Drawn, number: u32) {
             let far = rng.pick(&[MOST_SEPARATION + 1, 1 << 31, u32::MAX]);
             rng.put(&mut drawn.separations, far);
         }
-        5 => drawn.tolerance = rng.pick(&[0, 15, MOST_TOLERANCE + 1, 1 << 31, u32::MAX]),
+        5 => {
+            let choices = [rng.range().least_tolerance - 1, bad_tolerance(rng)];
+            drawn.tolerance = rng.pick(&choices);
+        }
         _ => drawn.budget = rng.pick(&[0, MOST_BUDGET + 1, 1 << 31, u32::MAX]),
     }
 }
@@ -54,7 +60,7 @@ fn spoil_coordinate(rng: &mut Dice, drawn: &mut Drawn) {
         1 => rng.pick(&[0, 2, 3, 8, last]),
         _ => rng.below(last + 1),
     };
-    list[place] = rng.pick(&[M + 1, -M - 1, i32::MIN, i32::MAX, i32::MIN + 1, 1 << 30]);
+    list[place] = rng.beyond();
 }
 
 /// Sound, with a number at the end of its range.
@@ -62,12 +68,12 @@ fn at_the_ends(rng: &mut Dice, drawn: &mut Drawn) {
     match rng.below(5) {
         0 => rng.put(&mut drawn.separations, MOST_SEPARATION),
         1 => drawn.tolerance = MOST_TOLERANCE,
-        2 => drawn.tolerance = 16,
+        2 => drawn.tolerance = rng.range().least_tolerance,
         3 => drawn.budget = 1,
         _ => {
             let list = &mut drawn.positions[rng.below(2)][rng.below(2)];
             let place = rng.below(list.len());
-            list[place] = rng.pick(&[-M, M]);
+            list[place] = rng.end();
         }
     }
     // The most that is taken, where one box decides every query.
@@ -106,6 +112,18 @@ pub fn of_other_counts(rng: &mut Dice) -> Drawn {
         }
     }
     followed(rng, drawn)
+}
+
+/// An edition that is none, of bodies that are sound or refused for any reason.
+pub fn of_no_edition(rng: &mut Dice) -> Drawn {
+    let drawn = match rng.below(4) {
+        0 => sound(rng),
+        1 => refused(rng),
+        2 => of_other_lengths(rng),
+        _ => of_other_counts(rng),
+    };
+    let any = rng.between(4, 255) as u8;
+    Drawn { edition: rng.pick(&[0, 4, 129, 255, any]), ..drawn }
 }
 
 /// Sometimes with a separation, a tolerance or a budget that is refused too.

@@ -2,10 +2,11 @@
 
 use super::{count, turned, Drawn, Pair};
 use crate::bodies::Triangle;
+use crate::edition::Range;
 use crate::gen::dice::Dice;
 use crate::gen::shapes::point;
 use crate::record::Point;
-use crate::refusals::{MOST_COORDINATE as M, MOST_TOLERANCE};
+use crate::refusals::MOST_TOLERANCE;
 
 /// Boxes that the queries of a case may take together, about.
 const BOXES: u32 = 12_000;
@@ -126,16 +127,17 @@ fn collapsed(rng: &mut Dice, reach: i32, model: &Triangle) -> Triangle {
 
 /// Every coordinate at an end of its range, or nought.
 pub fn extreme(rng: &mut Dice) -> Drawn {
-    let ends: &[i32] = if rng.one_in(2) { &[-M, M] } else { &[-M, 0, M] };
+    let Range { most_coordinate: most, least_tolerance: least, .. } = rng.range();
+    let ends: &[i32] = if rng.one_in(2) { &[-most, most] } else { &[-most, 0, most] };
     let counts = [few(rng), few(rng)];
     let corner = |rng: &mut Dice| [0; 3].map(|_| rng.pick(ends));
     let pair = counts.map(|count| {
         let three = |rng: &mut Dice| [corner(rng), corner(rng), corner(rng)];
         (0..count).map(|_| [three(rng), three(rng)]).collect()
     });
-    let mut drawn = finish(rng, M, pair);
+    let mut drawn = finish(rng, most, pair);
     drawn.separations = rng.separations(|rng| rng.pick(&[0, 0, 1, 65_535, 65_536]));
-    drawn.tolerance = rng.pick(&[16, 16, 1_000, MOST_TOLERANCE - 1, MOST_TOLERANCE]);
+    drawn.tolerance = rng.pick(&[least, least, 1_000, MOST_TOLERANCE - 1, MOST_TOLERANCE]);
     drawn.budget = drawn.budget.min(60);
     drawn
 }

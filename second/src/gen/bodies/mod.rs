@@ -7,7 +7,8 @@ mod tuned;
 pub mod words;
 
 use super::dice::Dice;
-use super::shapes;
+use super::far::bodies_moved_out;
+use super::{named, shapes};
 use crate::bodies::{Bodies, Body, Triangle, MOST_TRIANGLES};
 use crate::edition::Edition;
 use crate::record::VERTEX_FACE;
@@ -15,6 +16,8 @@ use crate::record::VERTEX_FACE;
 /// Two bodies, sound or not, with positions of their own.
 #[derive(Clone, Debug, PartialEq, Eq)]
 pub struct Drawn {
+    /// Whose range is asked for; any number.
+    pub edition: u8,
     pub separations: [u32; 3],
     pub tolerance: u32,
     pub budget: u32,
@@ -28,36 +31,45 @@ pub struct Drawn {
 type Pair = [Vec<Triangle>; 2];
 type Make = fn(&mut Dice) -> Drawn;
 
-/// Every flavour's name, and what makes its bodies.
-const FLAVOURS: [(&str, Make); 14] = [
-    ("bodies-near", plates::near),
-    ("bodies-far", plates::far),
-    ("bodies-ties", plates::ties),
-    ("bodies-clumps", clumps::near),
-    ("bodies-touching", clumps::touching),
-    ("bodies-together", clumps::together),
-    ("bodies-degenerate", clumps::degenerate),
-    ("bodies-extreme", clumps::extreme),
-    ("bodies-budget", tuned::budget),
-    ("bodies-queue", tuned::any),
-    ("bodies-refusals", bad::refused),
-    ("bodies-lengths", bad::of_other_lengths),
-    ("bodies-counts", bad::of_other_counts),
+/// Every flavour's name in the shorter range and in the longer, and what makes its bodies.
+const FLAVOURS: [([&str; 2], Make); 16] = [
+    (["bodies-near", "bodies-near3"], plates::near),
+    (["bodies-far", "bodies-far3"], plates::far),
+    (["bodies-ties", "bodies-ties3"], plates::ties),
+    (["bodies-clumps", "bodies-clumps3"], clumps::near),
+    (["bodies-touching", "bodies-touching3"], clumps::touching),
+    (["bodies-together", "bodies-together3"], clumps::together),
+    (["bodies-degenerate", "bodies-degenerate3"], clumps::degenerate),
+    (["bodies-extreme", "bodies-extreme3"], clumps::extreme),
+    (["bodies-deep", "bodies-deep3"], tuned::deep),
+    (["bodies-budget", "bodies-budget3"], tuned::budget),
+    (["bodies-queue", "bodies-queue3"], tuned::any),
+    (["bodies-refusals", "bodies-refusals3"], bad::refused),
+    (["bodies-lengths", "bodies-lengths3"], bad::of_other_lengths),
+    (["bodies-counts", "bodies-counts3"], bad::of_other_counts),
+    (["bodies-editions", "bodies-editions3"], bad::of_no_edition),
     (LARGE, plates::whole),
 ];
 
 /// The flavour of as many triangles as two bodies may have.
-pub const LARGE: &str = "bodies-256";
+pub const LARGE: [&str; 2] = ["bodies-256", "bodies-256-3"];
 
 /// The flavours' names.
 pub fn flavours() -> Vec<&'static str> {
-    FLAVOURS.iter().map(|(name, _)| *name).collect()
+    FLAVOURS.iter().flat_map(|(names, _)| *names).collect()
 }
 
 /// The bodies of a seed and a flavour, if there is such a flavour.
 pub fn generate(seed: u64, flavour: &str) -> Option<Drawn> {
-    let (name, make) = FLAVOURS.iter().find(|(name, _)| *name == flavour)?;
-    Some(make(&mut Dice::new(seed, name, Edition::Two)))
+    let (place, make) = named(&FLAVOURS, flavour)?;
+    let mut rng = Dice::new(seed, flavour, [Edition::Two, Edition::Three][place]);
+    let mut drawn = make(&mut rng);
+    bodies_moved_out(&mut rng, &mut drawn.positions);
+    // Edition 1 has the same range.
+    if drawn.edition == Edition::Two.number() && rng.one_in(2) {
+        drawn.edition = Edition::One.number();
+    }
+    Some(drawn)
 }
 
 impl Drawn {
@@ -65,6 +77,7 @@ impl Drawn {
     fn new(rng: &mut Dice, reach: i32, triangles: Pair) -> Drawn {
         let numbers = shapes::record(rng, VERTEX_FACE, reach, [[[0; 3]; 4]; 2]);
         Drawn {
+            edition: rng.edition.number(),
             separations: numbers.separations,
             tolerance: numbers.tolerance,
             budget: numbers.budget,
@@ -78,8 +91,8 @@ impl Drawn {
             let [start, end] = &self.positions[side];
             Body { count: self.counts[side], start, end }
         });
-        let Drawn { separations, tolerance, budget, .. } = *self;
-        Bodies { a, b, separations, tolerance, budget }
+        let Drawn { edition, separations, tolerance, budget, .. } = *self;
+        Bodies { edition, a, b, separations, tolerance, budget }
     }
 }
 

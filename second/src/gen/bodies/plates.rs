@@ -121,7 +121,8 @@ pub fn whole(rng: &mut Dice) -> Drawn {
         pair.iter_mut().for_each(|triangles| triangles.reverse());
     }
     let pair = turned(rng, pair);
-    let tolerance = rng.pick(&[step / 20, step / 4, step / 2]) as u32;
+    let least = rng.range().least_tolerance;
+    let tolerance = least.max(rng.pick(&[step / 20, step / 4, step / 2]) as u32);
     let budget = rng.between(40, 400) as u32;
     Drawn { tolerance, budget, ..Drawn::new(rng, step / 8, pair) }
 }
@@ -158,7 +159,7 @@ fn cheaper(rng: &mut Dice, reach: i32, pair: Pair) -> Drawn {
     let pairs = (pair[0].len() * pair[1].len()) as u32;
     let mut drawn = Drawn::new(rng, reach, pair);
     if pairs > 8 {
-        drawn.tolerance = drawn.tolerance.max(reach as u32 / 20).max(16);
+        drawn.tolerance = drawn.tolerance.max(reach as u32 / 20);
         drawn.budget = drawn.budget.min(100);
     }
     drawn

@@ -2,6 +2,7 @@
 
 use super::{is_whole, Drawn};
 use crate::bodies::refusal;
+use crate::edition::Range;
 use crate::refusals::MOST_WORDS;
 use crate::rng::Rng;
 use crate::search::search_traced;
@@ -35,9 +36,9 @@ pub fn words(seed: u64, flavour: &str, drawn: &Drawn) -> Vec<usize> {
 
 /// The exact need of some query, two less to one more.
 fn around_need(rng: &mut Rng, drawn: &Drawn) -> usize {
-    let queries = drawn.bodies().queries().take(LOOKED_AT);
+    let (queries, range) = (drawn.bodies().queries().take(LOOKED_AT), Range::of(drawn.edition));
     let peaks: Vec<usize> =
-        queries.map(|asked| search_traced(&asked.record, MOST_WORDS).1.peak).collect();
+        queries.map(|asked| search_traced(&asked.record, range, MOST_WORDS).1.peak).collect();
     let most = peaks.iter().copied().max().expect("fifteen queries at least");
     let any = rng.pick(&peaks);
     (2 * rng.pick(&[most, any]) - 2 + rng.below(4)).max(2)

@@ -2,8 +2,9 @@
 
 mod named;
 
+use super::ranges::ranged;
 use named::{on_the_way, right, told};
-use second::edition::Edition;
+use second::edition::{Edition, Range};
 use second::file::{open, record_at, record_number};
 use second::record::{Record, VERTEX_FACE};
 use second::refusals::{check_record, check_words, Refusal, MOST_BUDGET, MOST_WORDS};
@@ -23,18 +24,19 @@ faults! {
     UAndVWrap EdgesAskedAsAFace FaceAskedAsEdges LongSideOutside OneOutside OneMoreInside HighBitIgnored
     OutsideClearsQueue SpaceClearsQueue NotRuledOutLeavesQueue AnswerLeavesQueue LastWordLeft WordBeyondQueue
     TenthNumberWritten ToldChangedByOutside ToldChangedByNotRuledOut ToldChangedThoughShort
+    EditionThreeRefused OddPartsOutside HalvesAskedForOutside AnsweredTimeNotDoubled PartsNotHalved
 }
 
 #[rustfmt::skip]
-pub unsafe extern "C" fn why<const N: usize>(
+pub unsafe extern "C" fn why<const N: usize, const R: usize>(
     file: *const u8, file_len: usize, n: usize, t: u32, u: u32, v: u32,
     queue: *mut u64, queue_len: usize, told: *mut u32, told_len: usize,
 ) -> u32 {
     let (fault, file) = (FAULTS[N], from_raw_parts(file, file_len));
     let (queue, told) = (from_raw_parts_mut(queue, queue_len), from_raw_parts_mut(told, told_len));
     let asked = Asked { point: [t, u, v], words: queue.len(), lent: told.len() };
-    let record = before_file(fault, &asked).and_then(|()| record(fault, file, n));
-    let answer = record.and_then(|record| answer(fault, &record, &asked));
+    let query = before_file(fault, &asked).and_then(|()| query::<R>(fault, file, n));
+    let answer = query.and_then(|query| answer(fault, &query, &asked));
     let number = answer.map_or_else(Refusal::number, |_| 0);
     if let Ok(numbers) = answer {
         let room = told.len().min(TOLD);
@@ -43,6 +45,14 @@ pub unsafe extern "C" fn why<const N: usize>(
     leave_queue(fault, number, queue);
     leave_told(fault, number, told);
     number
+}
+
+/// The record that is asked about, and the range by which it is searched.
+struct Query {
+    record: Record,
+    range: Range,
+    /// Of edition 3.
+    longer: bool,
 }
 
 struct Asked {
@@ -95,33 +105,37 @@ fn before_file(fault: Fault, asked: &Asked) -> Result<(), Refusal> {
     }
 }
 
-/// The record that is asked about.
-fn record(fault: Fault, file: &[u8], n: usize) -> Result<Record, Refusal> {
-    if fault == Fault::EditionOneAlone && open(file)?.edition == Edition::Two {
-        return Err(Refusal::Edition);
-    }
+/// The record that is asked about and its range.
+fn query<const R: usize>(fault: Fault, file: &[u8], n: usize) -> Result<Query, Refusal> {
+    let edition = open(file)?.edition;
+    let is_known = match fault {
+        Fault::EditionOneAlone => edition == Edition::One,
+        Fault::EditionThreeRefused => edition != Edition::Three,
+        _ => true,
+    };
+    refused(!is_known, Refusal::Edition)?;
     let n = match fault {
         Fault::IndexCutTo32Bits => n as u32 as usize,
         Fault::RecordsFromOne => n.wrapping_sub(1),
         _ => n,
     };
-    let record = record_at(file, record_number(n))?;
-    let [x, _, _] = record.separations;
-    Ok(match fault {
-        Fault::FlagIgnored => Record { flags: record.flags & 0xFE, ..record },
-        Fault::SeparationOfX => Record { separations: [x; 3], ..record },
-        _ => record,
-    })
+    let (mut record, range) = record_at(file, record_number(n))?;
+    match fault {
+        Fault::FlagIgnored => record.flags &= 0xFE,
+        Fault::SeparationOfX => record.separations = [record.separations[0]; 3],
+        _ => {}
+    }
+    Ok(Query { record, range: ranged::<R>(range), longer: range == Range::LONGER })
 }
 
 /// The nine numbers, or the first refusal in an order with the fault.
-fn answer(fault: Fault, record: &Record, asked: &Asked) -> Result<[u32; TOLD], Refusal> {
-    let searched = || search(fault, record, asked.words);
-    let of_record = || check_record(record);
+fn answer(fault: Fault, query: &Query, asked: &Asked) -> Result<[u32; TOLD], Refusal> {
+    let searched = || search(fault, query, asked.words);
+    let of_record = || check_record(&query.record, query.range);
     let queue = || check_words(asked.words);
-    let outside = || refused(is_outside(fault, record, asked.point), Refusal::Outside);
+    let outside = || refused(is_outside(fault, query, asked.point), Refusal::Outside);
     let space = || refused(is_short(fault, asked.lent), Refusal::Space);
-    let late = || refused(is_late(fault, &*searched()?, asked.point), Refusal::NotRuledOut);
+    let late = || refused(is_late(fault, query, &*searched()?, asked.point), Refusal::NotRuledOut);
     match fault {
         Fault::NotRuledOutBeforeOutside => first(&[&of_record, &queue, &late])?,
         Fault::OutsideBeforeQueue => first(&[&of_record, &outside])?,
@@ -133,7 +147,10 @@ fn answer(fault: Fault, record: &Record, asked: &Asked) -> Result<[u32; TOLD], R
         _ => {}
     }
     first(&[&of_record, &queue, &outside, &space, &late])?;
-    Ok(told(fault, &*searched()?, asked.point))
+    let halved = fault != Fault::PartsNotHalved || !query.longer;
+    // As if the parts were those of a grid of depth 19.
+    let point = if halved { asked.point } else { asked.point.map(|part| (2 * part).min(ONE)) };
+    Ok(told(fault, &*searched()?, point))
 }
 
 /// The first of these that refuses.
@@ -149,24 +166,25 @@ fn refused(is: bool, refusal: Refusal) -> Result<(), Refusal> {
 }
 
 /// The search with its log, longer than it may be where a fault gives it more.
-fn search(fault: Fault, record: &Record, words: usize) -> Result<Rc<Searched>, Refusal> {
+fn search(fault: Fault, query: &Query, words: usize) -> Result<Rc<Searched>, Refusal> {
+    let Query { record, range, .. } = *query;
     let budget = (4 * record.budget).min(MOST_BUDGET);
     match fault {
-        Fault::MoreBudget => kept(&Record { budget, ..*record }, words),
-        Fault::MoreRoom => kept(record, (4 * words).min(MOST_WORDS)),
-        _ => kept(record, words),
+        Fault::MoreBudget => kept(Record { budget, ..record }, range, words),
+        Fault::MoreRoom => kept(record, range, (4 * words).min(MOST_WORDS)),
+        _ => kept(record, range, words),
     }
 }
 
 /// The last search is kept, as many points are asked of one record.
-fn kept(record: &Record, words: usize) -> Result<Rc<Searched>, Refusal> {
-    type Last = Option<(Record, usize, Rc<Searched>)>;
+fn kept(record: Record, range: Range, words: usize) -> Result<Rc<Searched>, Refusal> {
+    type Last = Option<((Record, Range, usize), Rc<Searched>)>;
     thread_local! { static LAST: RefCell<Last> = const { RefCell::new(None) } }
     LAST.with_borrow_mut(|last| match last {
-        Some((of, by, searched)) if of == record && *by == words => Ok(searched.clone()),
+        Some((of, searched)) if *of == (record, range, words) => Ok(searched.clone()),
         _ => {
-            let searched = Rc::new(Searched::of(record, words)?);
-            *last = Some((*record, words, searched.clone()));
+            let searched = Rc::new(Searched::of(&record, range, words)?);
+            *last = Some(((record, range, words), searched.clone()));
             Ok(searched)
         }
     })
@@ -181,9 +199,11 @@ fn is_short(fault: Fault, lent: usize) -> bool {
     lent < room
 }
 
-fn is_outside(fault: Fault, record: &Record, point: Parts) -> bool {
+fn is_outside(fault: Fault, query: &Query, point: Parts) -> bool {
     let [t, u, v] = point.map(|part| match fault {
         Fault::HighBitIgnored => part & 0x7FFF_FFFF,
+        Fault::HalvesAskedForOutside if query.longer => part / 2 * 2,
+        Fault::OddPartsOutside if query.longer && part % 2 == 1 => u32::MAX,
         _ => part,
     });
     let most = match fault {
@@ -191,7 +211,7 @@ fn is_outside(fault: Fault, record: &Record, point: Parts) -> bool {
         Fault::OneMoreInside => ONE + 1,
         _ => ONE,
     };
-    let face = record.kind == VERTEX_FACE;
+    let face = query.record.kind == VERTEX_FACE;
     let sum = u64::from(u) + u64::from(v);
     let off_the_face = match fault {
         Fault::UAndVWrap if face => return t > most || u.wrapping_add(v) > most,
@@ -203,7 +223,7 @@ fn is_outside(fault: Fault, record: &Record, point: Parts) -> bool {
     t.max(u).max(v) > most || off_the_face
 }
 
-fn is_late(fault: Fault, searched: &Searched, point: Parts) -> bool {
+fn is_late(fault: Fault, query: &Query, searched: &Searched, point: Parts) -> bool {
     let t = point[0];
     let Some(corner) = searched.answer.corner() else {
         return fault == Fault::ClearRulesNothingOut || fault == Fault::ClearEndsAtOne && t >= ONE;
@@ -215,6 +235,7 @@ fn is_late(fault: Fault, searched: &Searched, point: Parts) -> bool {
         Fault::AnsweredTimeRuledOut if t == corner.t => !known(),
         Fault::LaterMomentsRuledOut => t >= corner.t && !known(),
         Fault::PartBeforeNotRuledOut => t + 1 >= corner.t,
+        Fault::AnsweredTimeNotDoubled if query.longer => t >= corner.t / 2,
         _ => t >= corner.t,
     }
 }

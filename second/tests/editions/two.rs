@@ -1,54 +1,16 @@
 //! Edition 2 of the query file: its bytes, round trips, and refusals 2, 4, 10, 12 and 14.
 
-mod common;
-
-use common::*;
+use crate::common::*;
+use crate::{file, odd, trailed, written, NONE};
 use second::edition::Edition::{One, Two};
-use second::file::{fetch, open, trailer, write_record, write_trailer, Opened, RefusedFetch};
+use second::edition::Range;
+use second::file::{fetch, open, trailer, write_record, Opened, RefusedFetch};
 use second::record::Record;
 use second::refusals::{check_record, Refusal};
 
-const BAD_EDITIONS: [u8; 5] = [0, 3, 129, 254, 255];
-
-/// Every field another number.
-fn odd() -> Record {
-    let mut odd = ee([[1, -2, 3], [-4, 5, -6], [7, -8, 9], [-10, 11, -12]], [[-M, M, 0]; 4]);
-    odd.flags = 1;
-    odd.id = 0x01020304;
-    odd.separations = [400, 65_536, 3200];
-    odd.tolerance = 80;
-    odd.budget = 1_000_000;
-    odd
-}
-
-fn file(leading: usize, records: &[Record]) -> Vec<u8> {
-    let at = |n: usize| leading + 128 * n;
-    let mut bytes = vec![0xA5; at(records.len()) + 16];
-    for (n, record) in records.iter().enumerate() {
-        write_record(&mut bytes, at(n), 2, record).unwrap();
-    }
-    write_trailer(&mut bytes, at(records.len()), 2, records.len() as u32).unwrap();
-    bytes
-}
-
-/// What writing a record into so many bytes gives; a refused write changes none of them.
-fn written(edition: u8, record: &Record, space: usize) -> u32 {
-    let mut bytes = vec![0xFF; space];
-    let result = write_record(&mut bytes, 0, edition, record);
-    assert_eq!(bytes == vec![0xFF; space], result.is_err());
-    result.map_or_else(Refusal::number, |()| 0)
-}
-
-fn trailed(edition: u8, at: usize, count: u32, space: usize) -> u32 {
-    let mut bytes = vec![0xFF; space];
-    let result = write_trailer(&mut bytes, at, edition, count);
-    assert_eq!(bytes == vec![0xFF; space], result.is_err());
-    result.map_or_else(Refusal::number, |()| 0)
-}
-
 #[test]
 fn bytes_of_a_record_and_a_trailer() {
-    let bytes = file(0, &[odd()]);
+    let bytes = file(Two, 0, &[odd()]);
     assert_eq!(bytes[..8], [2, 1, 0, 0, 4, 3, 2, 1]);
     assert_eq!(bytes[8..20], [0x90, 1, 0, 0, 0, 0, 1, 0, 0x80, 0x0C, 0, 0]);
     assert_eq!(bytes[20..32], [80, 0, 0, 0, 0x40, 0x42, 0x0F, 0, 0, 0, 0, 0]);
@@ -61,7 +23,7 @@ fn bytes_of_a_record_and_a_trailer() {
 fn round_trip() {
     let records = [first_case(), odd(), Record { separations: [0, 1, 2], ..first_case() }];
     for leading in [0, 1, 16, 116, 128, 300] {
-        let bytes = file(leading, &records);
+        let bytes = file(Two, leading, &records);
         assert_eq!(open(&bytes), Ok(Opened { edition: Two, first: leading, count: 3 }));
         for (n, record) in records.iter().enumerate() {
             assert_eq!(fetch(&bytes, n as u32), Ok(*record));
@@ -69,25 +31,25 @@ fn round_trip() {
         let absent = RefusedFetch { refusal: Refusal::Index, id: None };
         assert_eq!(fetch(&bytes, 3), Err(absent));
     }
-    assert_eq!(open(&file(5, &[])), Ok(Opened { edition: Two, first: 5, count: 0 }));
+    assert_eq!(open(&file(Two, 5, &[])), Ok(Opened { edition: Two, first: 5, count: 0 }));
 }
 
 #[test]
 fn spare_is_refused_2() {
     for bit in 0..32 {
         let record = Record { spare: 1 << bit, ..odd() };
-        assert_eq!(check_record(&record), Err(Refusal::Flags));
+        assert_eq!(check_record(&record, Range::SHORTER), Err(Refusal::Flags));
         assert_eq!(ask(record), second::search::Answer::Refused(Refusal::Flags));
         assert_eq!([written(1, &record, 200), written(2, &record, 200)], [2, 2]);
-        let mut bytes = file(0, &[odd()]);
+        let mut bytes = file(Two, 0, &[odd()]);
         bytes[28 + bit / 8] = 1 << (bit % 8);
         let id = Some(odd().id);
         assert_eq!(fetch(&bytes, 0), Err(RefusedFetch { refusal: Refusal::Flags, id }));
     }
     let kind = Record { spare: 1, kind: 0, ..odd() };
-    assert_eq!(check_record(&kind), Err(Refusal::Kind));
+    assert_eq!(check_record(&kind, Range::SHORTER), Err(Refusal::Kind));
     let far = Record { spare: 1, start: [[M + 1; 3]; 4], separations: [M as u32; 3], ..odd() };
-    assert_eq!(check_record(&far), Err(Refusal::Flags));
+    assert_eq!(check_record(&far, Range::SHORTER), Err(Refusal::Flags));
 }
 
 #[test]
@@ -97,7 +59,7 @@ fn any_separation_out_of_range_is_refused_4() {
             let mut record = odd();
             record.separations[axis] = separation;
             assert_eq!(written(2, &record, 128), expected);
-            let number = check_record(&record).map_or_else(Refusal::number, |()| 0);
+            let number = check_record(&record, Range::SHORTER).map_or_else(Refusal::number, |()| 0);
             assert_eq!(number, expected);
             record.tolerance = 0;
             assert_eq!(written(2, &record, 128), if expected == 0 { 5 } else { 4 });
@@ -119,7 +81,7 @@ fn edition_1_has_no_room_for_different_separations() {
         assert_eq!(written(1, &Record { end: [[-M - 1; 3]; 4], ..record }, 0), 3);
         assert_eq!(written(1, &Record { tolerance: 0, budget: 0, ..record }, 0), 4);
         // Another number is no edition and has no such rule.
-        assert_eq!(BAD_EDITIONS.map(|edition| written(edition, &record, 128)), [10; 5]);
+        assert_eq!(NONE.map(|edition| written(edition, &record, 128)), [10; 5]);
     }
     let mut bytes = vec![0; 116];
     let equal = Record { separations: [9; 3], ..first_case() };
@@ -129,7 +91,7 @@ fn edition_1_has_no_room_for_different_separations() {
 }
 
 #[test]
-fn opening_takes_two_editions_and_their_sizes() {
+fn opening_takes_three_editions_and_their_sizes() {
     for number in 0..=255 {
         let whole = |before: usize, back: u32, count: u32| {
             let mut bytes = vec![0; before];
@@ -137,8 +99,9 @@ fn opening_takes_two_editions_and_their_sizes() {
             bytes[before + 4] = number;
             open(&bytes).map_or_else(Refusal::number, |opened| opened.first as u32)
         };
+        // Edition 3 has edition 2's size.
         let by_edition =
-            |one: u32, two: u32| [one, two, 10][usize::from(number).wrapping_sub(1).min(2)];
+            |one: u32, two: u32| [one, two, two, 10][usize::from(number).wrapping_sub(1).min(3)];
         assert_eq!(whole(300, 232, 2), by_edition(68, 12));
         assert_eq!(whole(300, 256, 2), by_edition(12, 44));
         assert_eq!(whole(255, 256, 2), by_edition(12, 12));
@@ -148,7 +111,7 @@ fn opening_takes_two_editions_and_their_sizes() {
         assert_eq!(whole(300, 9, 4097), by_edition(11, 11));
     }
     for place in 5..8 {
-        let mut bytes = file(0, &[odd()]);
+        let mut bytes = file(Two, 0, &[odd()]);
         bytes[128 + place] = 1;
         assert_eq!(open(&bytes), Err(Refusal::Edition));
     }
@@ -159,7 +122,7 @@ fn record_writes_give_the_lowest_then_10_then_14() {
     let bad = Record { budget: 0, ..odd() };
     assert_eq!([127, 128, 129].map(|space| written(2, &odd(), space)), [14, 0, 0]);
     assert_eq!([115, 116, 128].map(|space| written(1, &first_case(), space)), [14, 0, 0]);
-    for edition in BAD_EDITIONS {
+    for edition in NONE {
         assert_eq!(written(edition, &odd(), 500), 10);
         assert_eq!(written(edition, &odd(), 0), 10);
         assert_eq!(written(edition, &bad, 0), 6);
@@ -175,7 +138,7 @@ fn record_writes_give_the_lowest_then_10_then_14() {
 
 #[test]
 fn trailer_writes_give_10_11_12_14() {
-    for edition in BAD_EDITIONS {
+    for edition in NONE {
         assert_eq!(trailed(edition, 0, 4097, 0), 10);
         assert_eq!(trailed(edition, 256, 2, 300), 10);
     }

@@ -1,8 +1,12 @@
 //! Two bodies by the stub, right or with one fault.
 
-use second::bodies::{refusal, told, walk, Asked, Bodies, BodiesAnswer, Body, Least, NUMBERS};
+mod refused;
+
+use super::ranges::ranged;
+use refused::refused;
+use second::bodies::{told, walk, Asked, Bodies, BodiesAnswer, Body, Least, NUMBERS};
+use second::edition::Range;
 use second::record::Record;
-use second::refusals::{check_record, check_words, Refusal};
 use second::search::{search, Answer};
 use std::slice::{from_raw_parts, from_raw_parts_mut};
 
@@ -15,13 +19,15 @@ faults! {
     BodyAfterQueries LengthsUnchecked LengthsWrap LongerTaken CountCutTo32Bits Most255 Least257 EmptyTaken
     EndOfBUnchecked StartOfAUnchecked CommonBeforeCoordinates CoordinatesBeforeCommon QueueBeforeBudget
     SeparationOfX SpaceBeforeRefusal SpaceOfSeven ToldWrittenOnRefusal ToldWrittenThoughShort
+    BodyBeforeEdition QueriesBeforeEdition EditionUnchecked EditionOneRefused EditionThreeRefused
+    EditionZeroTaken EditionFourTaken EditionCutTo7Bits TimeNotDoubled
 }
 
 /// Fault N over the second program's search, or over one that finds every query clear by a million boxes: a few thousand queries
 /// then have a sum of more than 32 bits.
 #[rustfmt::skip]
-pub unsafe extern "C" fn bodies<const N: usize, const CROWDED: bool>(
-    dx: u32, dy: u32, dz: u32, tolerance: u32, budget: u32,
+pub unsafe extern "C" fn bodies<const N: usize, const R: usize, const CROWDED: bool>(
+    edition: u8, dx: u32, dy: u32, dz: u32, tolerance: u32, budget: u32,
     a_count: usize, a_start: *const i32, a_start_len: usize, a_end: *const i32, a_end_len: usize,
     b_count: usize, b_start: *const i32, b_start_len: usize, b_end: *const i32, b_end_len: usize,
     queue: *mut u64, queue_len: usize, told: *mut u32, told_len: usize,
@@ -29,10 +35,11 @@ pub unsafe extern "C" fn bodies<const N: usize, const CROWDED: bool>(
     let list = |start: *const i32, length: usize| from_raw_parts(start, length);
     let a = Body { count: a_count, start: list(a_start, a_start_len), end: list(a_end, a_end_len) };
     let b = Body { count: b_count, start: list(b_start, b_start_len), end: list(b_end, b_end_len) };
-    let bodies = Bodies { a, b, separations: [dx, dy, dz], tolerance, budget };
+    let bodies = Bodies { edition, a, b, separations: [dx, dy, dz], tolerance, budget };
+    let range = ranged::<R>(Range::of(edition));
     let (queue, told) = (from_raw_parts_mut(queue, queue_len), from_raw_parts_mut(told, told_len));
-    let ask = |record: &Record| if CROWDED { CROWD } else { search(record, queue_len) };
-    called(FAULTS[N], &bodies, queue, told, ask)
+    let ask = |record: &Record| if CROWDED { CROWD } else { search(record, range, queue_len) };
+    called(FAULTS[N], &bodies, range, queue, told, ask)
 }
 
 /// What a query of a crowded walk is answered.
@@ -41,6 +48,7 @@ pub const CROWD: Answer = Answer::Clear { count: 1_000_000 };
 fn called(
     fault: Fault,
     bodies: &Bodies,
+    range: Range,
     queue: &mut [u64],
     lent: &mut [u32],
     ask: impl Fn(&Record) -> Answer,
@@ -50,7 +58,7 @@ fn called(
         return 14;
     }
     let bodies = taken(fault, bodies);
-    if let Some(refusal) = refused(fault, &bodies, queue.len()) {
+    if let Some(refusal) = refused(fault, &bodies, range, queue.len()) {
         if fault == Fault::QueueClearedThoughRefused {
             queue.fill(0);
         }
@@ -118,61 +126,6 @@ fn sound<'a>(fault: Fault, bodies: &Bodies<'a>) -> Bodies<'a> {
     sound
 }
 
-/// True where the fault finds that the body is none.
-fn is_no_body(fault: Fault, body: &Body) -> bool {
-    let Body { count, start, end } = body;
-    let lists = [start.len(), end.len()];
-    let fits = match fault {
-        Fault::LengthsUnchecked => lists.iter().all(|length| *length >= NUMBERS),
-        Fault::LengthsWrap => return lists != [NUMBERS.wrapping_mul(*count); 2] || *count == 0,
-        _ => lists == [NUMBERS.saturating_mul(*count); 2],
-    };
-    let range = match fault {
-        Fault::Most255 => 1..=255,
-        Fault::Least257 => 1..=257,
-        Fault::EmptyTaken => 0..=256,
-        _ => 1..=256,
-    };
-    !fits || !range.contains(count)
-}
-
-fn refused(fault: Fault, bodies: &Bodies, words: usize) -> Option<Refusal> {
-    let no_body = is_no_body(fault, &bodies.a) || is_no_body(fault, &bodies.b);
-    let of_queries = first_refused(fault, &sound(Fault::None, bodies), words);
-    let of_body = no_body.then_some(Refusal::Body);
-    match fault {
-        Fault::BodyAfterQueries => of_queries.or(of_body),
-        _ => of_body.or(of_queries),
-    }
-}
-
-/// The first refused query's number, by a check with the fault.
-fn first_refused(fault: Fault, bodies: &Bodies, words: usize) -> Option<Refusal> {
-    let mut bodies = *bodies;
-    let common = |bodies: &Bodies| {
-        let nothing = [0; NUMBERS];
-        let point = Body { count: 1, start: &nothing, end: &nothing };
-        refusal(&Bodies { a: point, b: point, ..*bodies }, words)
-    };
-    let coordinates = |bodies: &Bodies| {
-        let right = Bodies { separations: [0; 3], tolerance: 16, budget: 1, ..*bodies };
-        right.queries().find_map(|asked| check_record(&asked.record).err())
-    };
-    match fault {
-        Fault::EndOfBUnchecked => bodies.b.end = bodies.b.start,
-        Fault::StartOfAUnchecked => bodies.a.start = bodies.a.end,
-        Fault::CommonBeforeCoordinates => return common(&bodies).or_else(|| coordinates(&bodies)),
-        Fault::CoordinatesBeforeCommon => return coordinates(&bodies).or_else(|| common(&bodies)),
-        Fault::QueueBeforeBudget if check_words(words).is_err() => {
-            let first = refusal(&Bodies { budget: 1, ..bodies }, words);
-            return first;
-        }
-        _ => {}
-    }
-    let check = |record: &Record| check_record(record).and_then(|()| check_words(words)).err();
-    bodies.queries().find_map(|asked| check(&asked.record))
-}
-
 /// The eight numbers of a walk with the fault.
 fn answered(fault: Fault, bodies: &Bodies, ask: impl Fn(&Record) -> Answer) -> [u32; 8] {
     let mut queries: Vec<Asked> = bodies.queries().collect();
@@ -192,7 +145,7 @@ fn answered(fault: Fault, bodies: &Bodies, ask: impl Fn(&Record) -> Answer) -> [
     let mut given = answers.iter();
     let walked = walk(queries.into_iter().take(most), |_| *given.next().expect("an answer each"));
     let mut numbers = told(&walked).expect("an answer");
-    spoil(fault, &mut numbers, &walked, &answers);
+    spoil(fault, bodies.edition, &mut numbers, &walked, &answers);
     numbers
 }
 
@@ -233,7 +186,13 @@ fn exchange(pair: &mut [Asked], ones: [usize; 3], others: [usize; 3]) {
 }
 
 /// Numbers that are told otherwise.
-fn spoil(fault: Fault, numbers: &mut [u32; 8], walked: &BodiesAnswer, answers: &[Answer]) {
+fn spoil(
+    fault: Fault,
+    edition: u8,
+    numbers: &mut [u32; 8],
+    walked: &BodiesAnswer,
+    answers: &[Answer],
+) {
     let last = answers.iter().rev().find(|answer| time_and_excess(answer).is_some());
     let least = match walked {
         BodiesAnswer::Least(least) => least,
@@ -253,6 +212,7 @@ fn spoil(fault: Fault, numbers: &mut [u32; 8], walked: &BodiesAnswer, answers: &
         Fault::WordOfTheLast => numbers[0] = last[0],
         Fault::TrianglesFromOne => (numbers[2], numbers[3]) = (least.a + 1, least.b + 1),
         Fault::QueriesFromZero => numbers[4] -= 1,
+        Fault::TimeNotDoubled if edition == 3 => numbers[1] /= 2,
         Fault::SumOfTheHolder => numbers[6..].copy_from_slice(&holder(least, answers)),
         Fault::SumCutTo32Bits => numbers[7] = 0,
         _ => {}
