@@ -22,10 +22,14 @@ usage: second sweep [WORDS]         answers the query file on standard input
 fn main() -> ExitCode {
     let arguments: Vec<String> = std::env::args().skip(1).collect();
     let arguments: Vec<&str> = arguments.iter().map(String::as_str).collect();
-    match run(&arguments) {
-        Some(output) => print(&output),
-        None => {
-            eprintln!("{USAGE}");
+    let output = match arguments[..] {
+        ["write"] => written(),
+        _ => run(&arguments).ok_or_else(|| USAGE.to_string()),
+    };
+    match output {
+        Ok(output) => print(&output),
+        Err(why) => {
+            eprintln!("{why}");
             ExitCode::from(2)
         }
     }
@@ -46,9 +50,16 @@ fn run(arguments: &[&str]) -> Option<Vec<u8>> {
         ["words", seed, flavour] => Some(spaced(&words(seed.parse().ok()?, flavour)?)),
         ["queries", seed, number] => query_lines(seed, number, Edition::Two),
         ["queries", seed, number, "3"] => query_lines(seed, number, Edition::Three),
-        ["write"] => script::write(&String::from_utf8(input()).ok()?).ok(),
         _ => None,
     }
+}
+
+/// The query file of the text on standard input, all of it.
+fn written() -> Result<Vec<u8>, String> {
+    let mut text = Vec::new();
+    let read = std::io::stdin().lock().read_to_end(&mut text);
+    read.map_err(|fault| format!("the input cannot be read: {fault}"))?;
+    script::write(&text).map_err(|wrong| wrong.to_string())
 }
 
 fn query_lines(seed: &str, number: &str, edition: Edition) -> Option<Vec<u8>> {

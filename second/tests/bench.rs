@@ -142,9 +142,11 @@ fn berth_of_edition_3_lies_beyond_the_shorter_range() {
 #[test]
 fn the_same_ideas_leave_a_queue_of_zeros() {
     let (_, file) = sample(1, One, 4096);
-    for (query, words) in records::<ONE>(&file, 0, 4096).zip([4096, 65, 16].into_iter().cycle()) {
+    let queries: Vec<_> = records::<ONE>(&file, 0, 4096).collect();
+    assert_eq!(queries.len(), 4096);
+    for (query, words) in queries.iter().zip([4096, 65, 16].into_iter().cycle()) {
         let mut queue = vec![0; words];
-        Same::search(&Asked::of(&query, One.range().deepest), &mut queue);
+        Same::search(&Asked::of(query, One.range().deepest), &mut queue);
         assert!(queue == vec![0; words]);
     }
 }
@@ -160,6 +162,7 @@ fn floats_find<const SIZE: usize>(edition: Edition) {
     let (_, told, _) = by_hand::<Fast>(&file, 4096);
     let mut heap = BinaryHeap::new();
     let (mut decided, mut alike) = (0, 0);
+    assert_eq!(queries::<SIZE>(&file).count(), told.len() / 8);
     for (query, told) in queries::<SIZE>(&file).zip(told.chunks(8)) {
         let Found { time, checks } = query.solve(&mut heap);
         assert!(checks >= 1);

@@ -1,5 +1,6 @@
 //! The comparison itself: a right library passes, every wrong one is reported.
 
+#[macro_use]
 mod stub;
 
 use second::beside::{compare, process, report, tally::Tally, walk::Walk, Case, Library};
@@ -7,7 +8,7 @@ use second::gen::flavours;
 use std::fs;
 use std::path::PathBuf;
 use std::time::Duration;
-use stub::{library, ranged_library, ranges, Fault, FAULTS};
+use stub::{assert_reported, library, ranged_library, ranges, Fault, FAULTS};
 
 const SEEDS: std::ops::Range<u64> = 1..3;
 
@@ -22,34 +23,27 @@ fn cases() -> Vec<Case> {
     all.chain((3..15).map(|seed| Case::new(seed, "damaged3").unwrap())).collect()
 }
 
-/// True where some case differs.
-fn reported(library: Library, cases: &[Case]) -> bool {
-    let mut tally = Tally::default();
-    cases.iter().any(|case| !compare(&library, case, &mut tally).is_empty())
-}
+/// A file is compared by so many calls that one case is enough.
+const ENOUGH: usize = 1;
 
-macro_rules! each {
-    ($library:ident, $cases:expr, $($n:literal)*) => { [$(reported($library::<$n>(), $cases)),*] };
+/// How many of the cases differ; no more than enough are looked for.
+fn reported(library: Library, cases: &[Case]) -> usize {
+    let differs = |case: &&Case| !compare(&library, case, &mut Tally::default()).is_empty();
+    cases.iter().filter(differs).take(ENOUGH).count()
 }
 
 #[test]
 fn right_library_passes_and_wrong_ones_are_reported() {
     let cases = cases();
     let found = each!(library, &cases, 0 1 2 3 4 5 6 7 8 9 10 11 12 13 14 15 16 17 18 19 20);
-    assert_eq!(found.len(), FAULTS.len());
-    for (fault, reported) in FAULTS.iter().zip(found) {
-        assert_eq!(reported, *fault != Fault::None, "{fault:?}");
-    }
+    assert_reported(FAULTS, &found, &[Fault::None], ENOUGH);
 }
 
 #[test]
 fn wrong_ranges_are_reported() {
     let cases = cases();
     let found = each!(ranged_library, &cases, 0 1 2 3 4 5 6 7 8 9 10 11 12);
-    assert_eq!(found.len(), ranges::FAULTS.len());
-    for (fault, reported) in ranges::FAULTS.iter().zip(found) {
-        assert_eq!(reported, *fault != ranges::Fault::None, "{fault:?}");
-    }
+    assert_reported(ranges::FAULTS, &found, &[ranges::Fault::None], ENOUGH);
 }
 
 #[test]

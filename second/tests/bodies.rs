@@ -1,5 +1,6 @@
 //! The comparison of bodies: a right library passes, every wrong one is reported.
 
+#[macro_use]
 mod stub;
 
 use second::beside::bodies::{compare_with, tally::Tally, Case};
@@ -9,7 +10,7 @@ use second::bodies::{answer, walk, Bodies, BodiesAnswer};
 use second::gen::bodies::{flavours, LARGE};
 use std::fs;
 use stub::bodies::{Fault, CROWD, FAULTS};
-use stub::{bodies_library, crowded_library, library, ranged_library, ranges};
+use stub::{assert_reported, bodies_library, crowded_library, library, ranged_library, ranges};
 
 /// Flavours that are mostly refused, and so are quick.
 const REFUSED: [&str; 8] = [
@@ -62,22 +63,14 @@ fn reported(library: Library, cases: &[Solved]) -> usize {
     cases.iter().filter(differs).take(ENOUGH).count()
 }
 
-macro_rules! each {
-    ($library:ident, $cases:expr, $($n:literal)*) => { [$(reported($library::<$n>(), $cases)),*] };
-}
-
 #[test]
 fn right_library_passes_and_wrong_ones_are_reported() {
     let cases = cases();
     let found = each!(bodies_library, &cases,
         0 1 2 3 4 5 6 7 8 9 10 11 12 13 14 15 16 17 18 19 20 21 22 23 24 25 26 27 28 29 30 31 32 33 34 35 36 37 38
         39 40 41 42 43 44 45 46 47);
-    assert_eq!(found.len(), FAULTS.len());
-    for (fault, number) in FAULTS.iter().zip(found) {
-        // No search of a few thousand queries comes to a sum of more than 32 bits.
-        let unseen = [Fault::None, Fault::SumCutTo32Bits].contains(fault);
-        assert_eq!(number, if unseen { 0 } else { ENOUGH }, "{fault:?}");
-    }
+    // No search of a few thousand queries comes to a sum of more than 32 bits.
+    assert_reported(FAULTS, &found, &[Fault::None, Fault::SumCutTo32Bits], ENOUGH);
 }
 
 #[test]
@@ -86,10 +79,7 @@ fn wrong_ranges_are_reported() {
         (6..12).flat_map(|seed| ["bodies-deep", "bodies-deep3"].map(|name| solved(seed, name)));
     let cases: Vec<Solved> = deep.chain(cases()).collect();
     let found = each!(ranged_library, &cases, 0 1 2 3 4 5 6 7 8 9 10 11 12);
-    assert_eq!(found.len(), ranges::FAULTS.len());
-    for (fault, number) in ranges::FAULTS.iter().zip(found) {
-        assert_eq!(number, if *fault == ranges::Fault::None { 0 } else { ENOUGH }, "{fault:?}");
-    }
+    assert_reported(ranges::FAULTS, &found, &[ranges::Fault::None], ENOUGH);
 }
 
 #[test]

@@ -1,5 +1,6 @@
 //! The comparison of `why`: a right library passes, every wrong one is reported.
 
+#[macro_use]
 mod stub;
 
 use second::beside::why::{compare, program, tally::Tally};
@@ -7,7 +8,7 @@ use second::beside::{walk::Walk, Case, Library};
 use second::gen::flavours;
 use std::fs;
 use stub::why::{Fault, FAULTS};
-use stub::{library, ranged_library, ranges, why_library};
+use stub::{assert_reported, library, ranged_library, ranges, why_library};
 
 /// The flavours whose files are quick.
 fn cases() -> Vec<Case> {
@@ -25,10 +26,6 @@ fn reported(library: Library, cases: &[Case]) -> usize {
     cases.iter().filter(differs).take(ENOUGH).count()
 }
 
-macro_rules! each {
-    ($library:ident, $cases:expr, $($n:literal)*) => { [$(reported($library::<$n>(), $cases)),*] };
-}
-
 #[test]
 fn right_library_passes_and_wrong_ones_are_reported() {
     let cases = cases();
@@ -36,10 +33,7 @@ fn right_library_passes_and_wrong_ones_are_reported() {
         0 1 2 3 4 5 6 7 8 9 10 11 12 13 14 15 16 17 18 19 20 21 22 23 24 25
         26 27 28 29 30 31 32 33 34 35 36 37 38 39 40 41 42 43 44 45 46 47 48 49 50 51 52 53
         54 55 56 57 58);
-    assert_eq!(found.len(), FAULTS.len());
-    for (fault, number) in FAULTS.iter().zip(found) {
-        assert_eq!(number, if *fault == Fault::None { 0 } else { ENOUGH }, "{fault:?}");
-    }
+    assert_reported(FAULTS, &found, &[Fault::None], ENOUGH);
 }
 
 #[test]
@@ -48,10 +42,7 @@ fn wrong_ranges_are_reported() {
     let refused = (4..12).flat_map(refused);
     let cases: Vec<Case> = refused.chain(cases()).collect();
     let found = each!(ranged_library, &cases, 0 1 2 3 4 5 6 7 8 9 10 11 12);
-    assert_eq!(found.len(), ranges::FAULTS.len());
-    for (fault, number) in ranges::FAULTS.iter().zip(found) {
-        assert_eq!(number, if *fault == ranges::Fault::None { 0 } else { ENOUGH }, "{fault:?}");
-    }
+    assert_reported(ranges::FAULTS, &found, &[ranges::Fault::None], ENOUGH);
 }
 
 #[test]

@@ -1,11 +1,12 @@
 //! The comparison of the writers: right ones pass, every wrong one is reported.
 
+#[macro_use]
 mod stub;
 
 use second::beside::{compare, tally::Tally, writing, Case, Library};
 use second::gen::{flavours, generate};
 use stub::writing::{Fault, FAULTS};
-use stub::{library, ranged_library, ranges, writing_library};
+use stub::{assert_reported, library, ranged_library, ranges, writing_library};
 
 /// A file alone: the writers need no queue.
 fn case(seed: u64, flavour: &'static str) -> Case {
@@ -33,21 +34,13 @@ fn reported(library: Library, cases: &[Case]) -> usize {
     cases.iter().filter(differs).take(ENOUGH).count()
 }
 
-macro_rules! each {
-    ($library:ident, $cases:expr, $($n:literal)*) => { [$(reported($library::<$n>(), $cases)),*] };
-}
-
 #[test]
 fn right_writers_pass_and_wrong_ones_are_reported() {
     let cases = cases();
     let found = each!(writing_library, &cases,
         0 1 2 3 4 5 6 7 8 9 10 11 12 13 14 15 16 17 18 19
         20 21 22 23 24 25 26 27 28 29 30 31 32 33 34 35 36 37 38 39 40 41);
-    assert_eq!(found.len(), FAULTS.len());
-    for (fault, number) in FAULTS.iter().zip(found) {
-        let must = if *fault == Fault::None { 0 } else { ENOUGH };
-        assert_eq!(number, must, "{fault:?}");
-    }
+    assert_reported(FAULTS, &found, &[Fault::None], ENOUGH);
 }
 
 #[test]
@@ -55,12 +48,8 @@ fn wrong_ranges_are_reported_but_for_depths_which_no_writer_has() {
     let refused = (3..12).flat_map(|seed| ["refusals2", "refusals3"].map(|name| case(seed, name)));
     let cases: Vec<Case> = refused.chain(cases()).collect();
     let found = each!(ranged_library, &cases, 0 1 2 3 4 5 6 7 8 9 10 11 12);
-    assert_eq!(found.len(), ranges::FAULTS.len());
-    for (fault, number) in ranges::FAULTS.iter().zip(found) {
-        use ranges::Fault::{DeeperInThree, None, ShallowerInTwo};
-        let unseen = [None, DeeperInThree, ShallowerInTwo].contains(fault);
-        assert_eq!(number, if unseen { 0 } else { ENOUGH }, "{fault:?}");
-    }
+    use ranges::Fault::{DeeperInThree, None, ShallowerInTwo};
+    assert_reported(ranges::FAULTS, &found, &[None, DeeperInThree, ShallowerInTwo], ENOUGH);
 }
 
 #[test]

@@ -8,6 +8,7 @@ pub fn print(heads: &[Head], rows: &[(String, Vec<f64>)]) {
     let line = |name: &str, cells: Vec<String>| println!("{name:34}{}", cells.concat());
     line("", heads.iter().map(|(head, _)| format!("{head:>17}")).collect());
     for (name, numbers) in rows {
+        assert_eq!(numbers.len(), heads.len(), "{name}");
         let cells = heads.iter().zip(numbers);
         line(name, cells.map(|((_, digits), number)| format!("{number:>17.digits$}")).collect());
     }

@@ -207,5 +207,6 @@ fn counts(fit: usize) -> [u32; 8] {
 /// True where the bytes are a file that opens so, to exactly these records.
 fn reads(file: &[u8], opened: Opened, records: &[Record]) -> bool {
     open(file) == Ok(opened)
+        && opened.count as usize == records.len()
         && (0..).zip(records).all(|(n, record)| fetch(file, n).as_ref() == Ok(record))
 }

@@ -69,6 +69,7 @@ fn fifteen_queries_of_a_pair_in_order() {
         "2: 13 11 with 23 21",
     ];
     // Triangle 1 of A with triangle 2 of B, the last pair.
+    assert_eq!(asked.len(), 75 + must.len());
     for (asked, must) in asked[75..].iter().zip(must) {
         for (end, points) in [asked.record.start, asked.record.end].iter().enumerate() {
             let name = |p: &Point| {

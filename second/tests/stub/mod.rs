@@ -10,6 +10,11 @@ macro_rules! faults {
     };
 }
 
+/// What `reported` says of the libraries with these faults, in order.
+macro_rules! each {
+    ($library:ident, $cases:expr, $($n:literal)*) => { [$(reported($library::<$n>(), $cases)),*] };
+}
+
 pub mod bodies;
 pub mod ranges;
 pub mod why;
@@ -22,6 +27,7 @@ use second::refusals::Refusal;
 use second::search::search;
 use second::told::told;
 use std::borrow::Cow;
+use std::fmt::Debug;
 use std::slice::{from_raw_parts, from_raw_parts_mut};
 
 faults! {
@@ -72,6 +78,17 @@ pub fn why_library<const N: usize>() -> Library {
 /// The same where every query is clear by a million boxes.
 pub fn crowded_library<const N: usize>() -> Library {
     Library { bodies: bodies::bodies::<N, 0, true>, ..library::<0>() }
+}
+
+/// A number of differing cases for every fault: none where it cannot be seen, else enough.
+pub fn assert_reported<F>(faults: &[F], found: &[usize], unseen: &[F], enough: usize)
+where
+    F: PartialEq + Debug,
+{
+    assert_eq!(found.len(), faults.len());
+    for (fault, number) in faults.iter().zip(found) {
+        assert_eq!(*number, if unseen.contains(fault) { 0 } else { enough }, "{fault:?}");
+    }
 }
 
 /// The eight numbers of record n, with the fault.
