@@ -3,7 +3,7 @@ ghost use mathlib.Core.Path.{_≡_};
 ghost use mathlib.Core.Bool.{_||_, cond};
 ghost use lib.Dec.{eqb};
 ghost use lib.IntN.{pos};
-ghost use Rattle.rules.specs.Numbers.{between, limitsOf, isCoordinate, isQueue};
+ghost use Rattle.rules.specs.Numbers.{between, limitsBy, limitsOf, isCoordinate, isQueue};
 ghost use Rattle.rules.specs.QueryFile.{isEdition};
 ghost use Rattle.rules.specs.Refusals.{every, areFlags, areSeparations, casesWith, recordRefusal, searchRefusal};
 ghost use Rattle.refusals.specs.Cases.{firstOr};
@@ -40,13 +40,14 @@ pub fn is_edition(edition: u8) -> bool
     (edition == 1) | (edition == 2) | (edition == 3)
 }
 
-// An edition's limits: of coordinates, of depths, and the least tolerance.
-fn coordinate_limit(edition: u8) -> i32
-    ensures { λ n. ⌜ n ≡ pos (limitsOf edition .coordinate) ⌝ }
+// A range's limit of coordinates.
+fn coordinate_limit(longer: bool) -> i32
+    ensures { λ n. ⌜ n ≡ pos (limitsBy longer .coordinate) ⌝ }
 {
-    if edition == 3 { 2097152 } else { 1048576 }
+    if longer { 2097152 } else { 1048576 }
 }
 
+// An edition's depth limit, and its least tolerance.
 pub fn depth_limit(edition: u8) -> u64
     ensures { λ n. ⌜ n ≡ limitsOf edition .deepest ⌝ }
 {
@@ -60,23 +61,34 @@ fn least_tolerance(edition: u8) -> u32
 }
 
 // The coordinate is not negated: the least i32 has no negative.
-pub fn is_coordinate(edition: u8, c: i32) -> bool
-    ensures { λ b. ⌜ b ≡ isCoordinate (limitsOf edition) c ⌝ }
+fn is_coordinate(longer: bool, c: i32) -> bool
+    ensures { λ b. ⌜ b ≡ isCoordinate (limitsBy longer) c ⌝ }
 {
-    let limit = coordinate_limit(edition);
+    let limit = coordinate_limit(longer);
     (-limit <= c) & (c <= limit)
 }
 
-pub fn are_coordinates(edition: u8, s: &[i32]) -> bool
-    ensures { λ b. ⌜ b ≡ every (isCoordinate (limitsOf edition)) (now (s .entry)) ⌝ }
+fn are_within(longer: bool, s: &[i32]) -> bool
+    ensures { λ b. ⌜ b ≡ every (isCoordinate (limitsBy longer)) (now (s .entry)) ⌝ }
 {
     let mut all = true;
     let mut i = 0;
     while i < s.len() {
-        all = all & is_coordinate(edition, s[i]);
+        all = all & is_coordinate(longer, s[i]);
         i += 1;
     }
     all
+}
+
+// A loop for each range, so that it tests against numbers that the compiler knows.
+pub fn are_coordinates(edition: u8, s: &[i32]) -> bool
+    ensures { λ b. ⌜ b ≡ every (isCoordinate (limitsOf edition)) (now (s .entry)) ⌝ }
+{
+    if edition == 3 {
+        are_within(true, s)
+    } else {
+        are_within(false, s)
+    }
 }
 
 fn is_queue(words: usize) -> bool

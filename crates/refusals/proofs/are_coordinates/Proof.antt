@@ -1,66 +1,24 @@
--- `refusals::are_coordinates` meets its contract. What was found so far, and the test of what is left, are together the test of all. Assumes nothing.
-use Prim.Native.Nat.{_≤_, _-_}
-use mathlib.Core.Path.{_≡_, refl, sym, _∙_}
-use mathlib.Core.Bool.{_&&_}
-use native.Mathlib.Omega.{arith}
-use borrow.Author.Needs.{needs, sfits-of}
-use lib.ListN.{length, drop}
-use mir.Facts.{toZ-ofZ}
-use Rattle.rules.specs.Numbers.{limitsOf, isCoordinate}
+-- `refusals::are_coordinates` meets its contract: by the edition. Assumes nothing.
+use mathlib.Core.Path.{sym, ap, _∙_}
+use mathlib.Core.Bool.{Bool}
+use borrow.Author.Needs.{needs}
+use borrow.Author.Tests.{eq-eqb, ne-eqb}
+use Rattle.rules.specs.Numbers.{limitsBy, isCoordinate}
 use Rattle.rules.specs.Refusals.{every}
-use Rattle.refusals.specs.Every.{every-next, every-end}
 use Rattle.refusals.proofs.are_coordinates.Statement.{statement}
 use Rattle.refusals.proofs.are_coordinates.Tie as tie
 
-abbrev Inv-loop : tie.InvT-loop
-Inv-loop edition s all₀ i₀ all i = (i ≤ length s) × (every (isCoordinate (limitsOf edition)) s ≡ (all && every (isCoordinate (limitsOf edition)) (drop i s)))
+are-within-requires : tie.Need-are-within-requires
+are-within-requires c κs = search needs
 
-abbrev μ-loop : tie.MeasureT-loop
-μ-loop edition s all₀ i₀ all i = length s - i
+are-within-requires-2 : tie.Need-are-within-requires-2
+are-within-requires-2 c κs = search needs
 
-loop-holds : tie.Need-loop-holds Inv-loop μ-loop
-loop-holds c = (omega arith, refl)
+returns : tie.Need-returns
+returns c = rw (eq-eqb _ 3 (c .before .if1 .taken)) (c .are-within .ensures)
 
-mul-is-coordinate : tie.Need-mul-is-coordinate Inv-loop μ-loop
-mul-is-coordinate c = omega arith
-
-shared-slice-copy-out-is-coordinate : tie.Need-shared-slice-copy-out-is-coordinate Inv-loop μ-loop
-shared-slice-copy-out-is-coordinate c = omega arith
-
-is-coordinate-requires : tie.Need-is-coordinate-requires Inv-loop μ-loop
-is-coordinate-requires c κs = search needs
-
-add-i : tie.Need-add-i Inv-loop μ-loop
-add-i c = omega arith
-
-loop-less : tie.Need-loop-less Inv-loop μ-loop
-loop-less c = omega arith
-
-loop-again : tie.Need-loop-again Inv-loop μ-loop
-loop-again c =
-    let k = c .before .before .before in (
-      omega arith,
-      k .loop .inv .1
-          ∙ every-next (isCoordinate (limitsOf (k .before .args .edition))) (k .before .args .s .now) (k .loop .all) (c .is-coordinate .result) (k .loop .i) _ (omega arith) (c .is-coordinate .ensures)
-          (toZ-ofZ (sfits-of (c .before .is-coordinate-arg .given))),
-    )
-
-returns : tie.Need-returns Inv-loop μ-loop
-returns c =
-    let l = c .before .loop in
-    sym (l .inv .1 ∙ every-end (isCoordinate (limitsOf (c .before .before .args .edition))) (c .before .before .args .s .now) (l .all) (l .i) (omega arith))
+returns-2 : tie.Need-returns-2
+returns-2 c = rw (ne-eqb _ 3 (c .before .if1 .left)) (c .are-within2 .ensures)
 
 pub are-coordinates-spec : {M : Type 1} → statement M
-are-coordinates-spec =
-    tie.close
-    (tie.spec
-    Inv-loop
-    μ-loop
-    loop-holds
-    mul-is-coordinate
-    shared-slice-copy-out-is-coordinate
-    is-coordinate-requires
-    add-i
-    loop-less
-    loop-again
-    returns)
+are-coordinates-spec = tie.close (tie.spec are-within-requires are-within-requires-2 returns returns-2)

@@ -24,17 +24,17 @@ negated false = record { sfits = lit< tt }
 negated true = record { sfits = lit< tt }
 
 -- the limit as it is read back
-limit : (c : tie.After-coordinate-limit) → toZ w32 (ofZ w32 (c .coordinate-limit .result)) ≡ pos (limitsOf (c .before .args .edition) .coordinate)
+limit : (c : tie.After-coordinate-limit) → toZ w32 (ofZ w32 (c .coordinate-limit .result)) ≡ pos (limitsBy (c .before .args .longer) .coordinate)
 limit c = val.toZ-ofZ w32 _ (record { sfits = c .coordinate-limit .ok }) ∙ c .coordinate-limit .ensures
 
 coordinate-limit-requires : tie.Need-coordinate-limit-requires
 coordinate-limit-requires c κs = search needs
 
 sub-result : tie.Need-sub-result
-sub-result c = rw (limit c) (negated (eqb (c .before .args .edition) 3))
+sub-result c = rw (limit c) (negated (c .before .args .longer))
 
 returns : tie.Need-returns
-returns c = rw (limit c, toZ-ofZ (c .before .fits .c), toZ-ofZ (negated (eqb (c .before .args .edition) 3))) (by-size (eqb (c .before .args .edition) 3) (c .before .args .c))
+returns c = rw (limit c, toZ-ofZ (c .before .fits .c), toZ-ofZ (negated (c .before .args .longer))) (by-size (c .before .args .longer) (c .before .args .c))
 
 pub is-coordinate-spec : {M : Type 1} → statement M
 is-coordinate-spec = tie.close (tie.spec coordinate-limit-requires sub-result returns)
