@@ -12,7 +12,8 @@
 #include "taperhive.h"
 #include "reading.h"
 
-/* As many records as a file may have, of the longest edition, and the trailer. */
+/* As many records as a file may have, of 128 bytes as in editions 2 and 3, and
+ * the trailer. */
 enum { RECORDS = 4096, FILE_BYTES = RECORDS * 128 + 16, QUEUE_WORDS = 4096 };
 
 static uint8_t file[FILE_BYTES + 1]; /* the last byte is for telling a longer file */

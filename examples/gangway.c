@@ -14,6 +14,10 @@
 
 enum { METRE = 8000, QUEUE_WORDS = 4096, GANGWAY = 12, HULL = 4 };
 
+/* Coordinates up to 131 m from the origin. With 3 they may be up to 262 m, and
+ * the tolerance is 8 mm or more. */
+enum { EDITION = 2 };
+
 static uint64_t queue[QUEUE_WORDS];
 
 /* The box's corners by three bits: 1 far in x, 2 far in y, 4 far in z; two
@@ -69,7 +73,7 @@ static uint32_t ask(uint32_t told[TAPERHIVE_TOLD])
     gangway(-METRE / 2, -METRE / 2, METRE / 4, a_end);
     hull(0, b_start);
     hull(METRE / 2, b_end);
-    return taperhive_bodies(80, 80, 400, 160, 10000,
+    return taperhive_bodies(EDITION, 80, 80, 400, 160, 10000,
                             GANGWAY, a_start, GANGWAY * 9, a_end, GANGWAY * 9,
                             HULL, b_start, HULL * 9, b_end, HULL * 9,
                             queue, QUEUE_WORDS, told, TAPERHIVE_TOLD);

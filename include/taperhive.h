@@ -14,10 +14,16 @@
  *   refusal number   1 KIND, 2 FLAGS, 3 COORD, 4 SEPARATION, 5 TOLERANCE, 6 BUDGET, 7 QUEUE for a refused record, else 0
  * Numbers that an answer does not carry are 0.
  *
- * A file is of edition 1 (records of 116 bytes, one separation for all axes) or 2 (128 bytes, one for each); no call asks which.
+ * A file is of edition 1, 2 or 3, and says so itself; a call that reads one does not ask which. Editions differ in their records and in two ranges:
+ *   edition   a record    separation           coordinate                  tolerance
+ *   1         116 bytes   one for all axes     -1,048,576 to 1,048,576     16 to 1,048,576
+ *   2         128 bytes   one for each axis    -1,048,576 to 1,048,576     16 to 1,048,576
+ *   3         128 bytes   one for each axis    -2,097,152 to 2,097,152     64 to 1,048,576
+ * So 1 and 2 have the shorter range, 131 m each way from the origin, and 3 the longer, 262 m. A coordinate is refused 3 and a tolerance 5 by the record's own edition. Separation (0 to
+ * 65,536), budget (1 to 1,000,000) and queue have one range in all editions. t, u and v are told in 1,048,576 parts in all of them; those told of edition 3 are even.
  *
  * What the functions on a file return: 0, or why nothing was done: 8 SHORT, 9 MARK, 10 EDITION, 11 COUNT, 12 BACK of the file, 13 INDEX of the record number,
- * 14 SPACE where fewer numbers are lent than are to be told; the lowest. Then nothing that was lent is changed. taperhive_why gives more numbers, said there.
+ * 14 SPACE where fewer numbers are lent than are to be told; the lowest. 10 is a file that names none of the three editions. Then nothing that was lent is changed. taperhive_why gives more numbers, said there.
  */
 #ifndef TAPERHIVE_H
 #define TAPERHIVE_H
@@ -52,7 +58,8 @@ uint32_t taperhive_count(const uint8_t *file, size_t file_len, uint32_t *told, s
 
 /* Why record n of the file is safe at the moment t and the place u, v, each in 1/1,048,576 parts: the first box that the search discarded on the way from the whole domain down to that
  * point, one level at a time, always into the half that holds it (the upper one on a boundary, except at 1). told's first nine numbers are written: level, depths of t, u, v, indices of t, u, v, axis, side.
- *   a box of depth k and index i goes from i to i + 1 times 2^(20-k) parts, in each of t, u, v; the level is the sum of the depths
+ *   a box of depth k and index i goes from i to i + 1 times 2^(20-k) parts, in each of t, u, v, in every edition; the level is the sum of the depths
+ *   depths go to 20 and levels to 60 in editions 1 and 2, depths to 19 and levels to 57 in edition 3: there a box begins and ends at even parts. t, u, v asked for may be odd
  *   axis    0 x, 1 y, 2 z: the first, x before y before z, on which the bodies are further apart than the separation all over the box
  *   side    0 below, 1 above: the side of the second body on which the first one is then
  * The lent queue is all zero then. Returns 0, or why nothing was told: 8 to 13 of the file and the number, 1 to 6 of the record, 7 QUEUE, 23 OUTSIDE where the point is not in the domain (t, u, v at most
@@ -62,23 +69,24 @@ uint32_t taperhive_why(const uint8_t *file, size_t file_len, size_t n, uint32_t 
 
 /* Two bodies of triangles, a gangway and a hull, in one call: fifteen queries for each triangle of A with each of B (corners 1, 2, 3 of A with face B, those of B with
  * face A, then edges 12, 23, 31 of A each with 12, 23, 31 of B), pairs by A's triangle, then B's. Positions are nine numbers a triangle: x, y, z of its corners 1, 2, 3, once at the start and once at the
- * end of the step. Separations, tolerance and budget are those of every query; there is no flag.
+ * end of the step. Separations, tolerance and budget are those of every query; there is no flag. The edition says which range coordinates and tolerance have: 1 and 2 the shorter, 3 the longer. It says
+ * nothing else here: with 1 too there are three separations.
  * told's first eight numbers are written: word, t, triangle of A, triangle of B, query, excess, and the sum of all counts in two numbers, the low 32 bits first.
  *   word CLEAR where all are clear; else the word of the least time's holder: the first query in order that has that time
  *   t, excess    its own; triangles count from 0, queries from 1; all of them 0 for CLEAR
- * The lent queue is all zero then. Returns 0, or why nothing was done and nothing lent was changed: 21 BODY where a body has not 1 to 256 triangles, or some slice not nine numbers a
+ * The lent queue is all zero then; t is even where the edition is 3. Returns 0, or why nothing was done and nothing lent was changed: first 10 EDITION where the edition is not 1, 2 or 3; 21 BODY where a body has not 1 to 256 triangles, or some slice not nine numbers a
  * triangle; then the number 3 to 7 of the first refused query in order; then 14 where told has fewer than eight numbers. */
-uint32_t taperhive_bodies(uint32_t dx, uint32_t dy, uint32_t dz, uint32_t tolerance, uint32_t budget,
+uint32_t taperhive_bodies(uint8_t edition, uint32_t dx, uint32_t dy, uint32_t dz, uint32_t tolerance, uint32_t budget,
                           size_t a_count, const int32_t *a_start, size_t a_start_len, const int32_t *a_end, size_t a_end_len,
                           size_t b_count, const int32_t *b_start, size_t b_start_len, const int32_t *b_end, size_t b_end_len,
                           uint64_t *queue, size_t queue_len, uint32_t *told, size_t told_len);
 
-/* Record n of a file, written into another buffer from place `at` on, in edition 1 or 2. Returns 0, or why nothing was done and no byte was changed: 8 to 13 of the file and the
- * number, 1 to 6 of the record (4 also for edition 1 where the three separations differ), 10 for an edition other than 1 and 2, 14 where fewer bytes than the record's 116 or 128
- * stand from that place on, a place past the end included. */
+/* Record n of a file, written into another buffer from place `at` on, in edition 1, 2 or 3. Returns 0, or why nothing was done and no byte was changed: 8 to 13 of the file and the
+ * number, 1 to 6 of the record in the file's edition, then 1 to 6 of it in the edition to write (3 and 5 by that range, and 4 for edition 1 where the three separations differ), 10 for an edition other
+ * than 1, 2 and 3 (up to there it has the shorter range), 14 where fewer bytes than the record's 116 or 128 stand from that place on, a place past the end included. */
 uint32_t taperhive_copy(const uint8_t *file, size_t file_len, size_t n, uint8_t edition, uint8_t *out, size_t out_len, size_t at);
 
-/* The 16 bytes of a query file's trailer from place `at` on, behind so many records. Returns 0, or 10, 11, 12 (fewer bytes before the place than the records take), 14, and no
+/* The 16 bytes of a query file's trailer from place `at` on, behind so many records of that edition. Returns 0, or 10, 11, 12 (fewer bytes before the place than the records take), 14, and no
  * byte is changed. */
 uint32_t taperhive_trailer(uint8_t *out, size_t out_len, size_t at, uint8_t edition, uint32_t count);
 
