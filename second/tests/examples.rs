@@ -17,13 +17,17 @@ fn each_example_is_its_text() {
             seen += 1;
         }
     }
-    assert!(seen >= 5);
+    assert!(seen >= 8);
+}
+
+fn bytes_of(name: &str) -> Vec<u8> {
+    let path = Path::new(env!("CARGO_MANIFEST_DIR")).join("../examples").join(name);
+    fs::read(path).expect("its query file")
 }
 
 /// What sweep prints of an example.
 fn swept(name: &str) -> String {
-    let path = Path::new(env!("CARGO_MANIFEST_DIR")).join("../examples").join(name);
-    second::text::sweep(&fs::read(path).expect("its query file"), 4096)
+    second::text::sweep(&bytes_of(name), 4096)
 }
 
 #[test]
@@ -54,6 +58,33 @@ fn height_is_answered_the_same_on_every_axis() {
 TOTAL 9 MET 5 CLEAR 4 SPENT 0 ROOM 0 FLOOR 0 REFUSED 0
 ";
     assert_eq!(swept("height.query"), expected);
+}
+
+#[test]
+fn long_berth_goes_by_the_longer_range() {
+    let expected = "\
+1 MET 622592 311296 311296 50 583
+2 CLEAR 0 0 0 0 1
+3 REFUSED 5
+TOTAL 3 MET 1 CLEAR 1 SPENT 0 ROOM 0 FLOOR 0 REFUSED 1
+";
+    assert_eq!(swept("long-berth.query"), expected);
+    assert!(swept("first.query").starts_with("7 MET 622592 311296 311296 50 583\n"));
+}
+
+/// The same bytes with an edition's number in the trailer: 16 is a tolerance there, and the coordinates are none.
+#[test]
+fn long_berth_is_too_far_for_edition_2() {
+    let mut file = bytes_of("long-berth.query");
+    let edition = file.len() - 12;
+    file[edition] = 2;
+    let expected = "\
+1 REFUSED 3
+2 REFUSED 3
+3 REFUSED 3
+TOTAL 3 MET 0 CLEAR 0 SPENT 0 ROOM 0 FLOOR 0 REFUSED 3
+";
+    assert_eq!(second::text::sweep(&file, 4096), expected);
 }
 
 const METRE: i32 = 8000;
