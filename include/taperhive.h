@@ -19,11 +19,12 @@
  *   1         116 bytes   one for all axes     -1,048,576 to 1,048,576     16 to 1,048,576
  *   2         128 bytes   one for each axis    -1,048,576 to 1,048,576     16 to 1,048,576
  *   3         128 bytes   one for each axis    -2,097,152 to 2,097,152     64 to 1,048,576
- * So 1 and 2 have the shorter range, 131 m each way from the origin, and 3 the longer, 262 m. A coordinate is refused 3 and a tolerance 5 by the record's own edition. Separation (0 to
- * 65,536), budget (1 to 1,000,000) and queue have one range in all editions. t, u and v are told in 1,048,576 parts in all of them; those told of edition 3 are even.
+ * So 1 and 2 have the shorter range, 131 m each way from the origin, and 3 the longer, 262 m. 3 COORD and 5 TOLERANCE go by the edition of the record's file. Separation (0 to 65,536),
+ * budget (1 to 1,000,000) and queue have one range in all editions. t, u and v are told in 1/1,048,576 parts in all of them; those told of edition 3 are even.
  *
  * What the functions on a file return: 0, or why nothing was done: 8 SHORT, 9 MARK, 10 EDITION, 11 COUNT, 12 BACK of the file, 13 INDEX of the record number,
- * 14 SPACE where fewer numbers are lent than are to be told; the lowest. 10 is a file that names none of the three editions. Then nothing that was lent is changed. taperhive_why gives more numbers, said there.
+ * 14 SPACE where fewer numbers are lent than are to be told; the lowest. Then nothing that was lent is changed. taperhive_why gives more numbers, said there. 10 is given where a file
+ * names none of the three editions, or one of the three bytes behind that is not 0.
  */
 #ifndef TAPERHIVE_H
 #define TAPERHIVE_H
@@ -74,8 +75,9 @@ uint32_t taperhive_why(const uint8_t *file, size_t file_len, size_t n, uint32_t 
  * told's first eight numbers are written: word, t, triangle of A, triangle of B, query, excess, and the sum of all counts in two numbers, the low 32 bits first.
  *   word CLEAR where all are clear; else the word of the least time's holder: the first query in order that has that time
  *   t, excess    its own; triangles count from 0, queries from 1; all of them 0 for CLEAR
- * The lent queue is all zero then; t is even where the edition is 3. Returns 0, or why nothing was done and nothing lent was changed: first 10 EDITION where the edition is not 1, 2 or 3; 21 BODY where a body has not 1 to 256 triangles, or some slice not nine numbers a
- * triangle; then the number 3 to 7 of the first refused query in order; then 14 where told has fewer than eight numbers. */
+ *   in edition 3 t is even
+ * The lent queue is all zero then. Returns 0, or why nothing was done and nothing lent was changed: first 10 EDITION where the edition is not 1, 2 or 3; then 21 BODY where a body has
+ * not 1 to 256 triangles, or some slice not nine numbers a triangle; then the number 3 to 7 of the first refused query in order; then 14 where told has fewer than eight numbers. */
 uint32_t taperhive_bodies(uint8_t edition, uint32_t dx, uint32_t dy, uint32_t dz, uint32_t tolerance, uint32_t budget,
                           size_t a_count, const int32_t *a_start, size_t a_start_len, const int32_t *a_end, size_t a_end_len,
                           size_t b_count, const int32_t *b_start, size_t b_start_len, const int32_t *b_end, size_t b_end_len,
