@@ -1,12 +1,13 @@
 -- The search, level by level: what holds of a level holds of the next, and so every answer is kept; 61 levels are enough.
-use mathlib.Core.Path.{_≡_}
+use mathlib.Core.Path.{_≡_, sym, ap, _∙_}
 use mathlib.Core.Logic.{inl, inr}
 use mathlib.Core.Bool.{Bool, true, false, not}
 use mathlib.Core.List.{List, [], _∷_}
-use Prim.Native.Nat.{ℕ, zero, suc, _+_, _*_, _≤_, _<_}
-use native.Mathlib.Nat.{le-trans, le-refl, mul-comm, mul-le-mul-right}
+use Prim.Native.Nat.{ℕ, zero, suc, _+_, _*_, _-_, _^_, _≤_, _<_}
+use native.Mathlib.Nat.{le-trans, le-refl, mul-assoc, mul-comm, mul-le-mul-right}
 use native.Mathlib.Omega.{arith}
 use lib.IntN.{natAbs}
+use lib.Pow.{pow-add}
 use lib.ListN.{length}
 use lib.Dec.{T, leb}
 use Rattle.rules.specs.declared.Corner.{Corner}
@@ -28,10 +29,15 @@ use Rattle.promise.proofs.Corner.{low-size, near-excess}
 
 -- ---- what holds of an answer
 module _ (S : Query) where
+  -- in the finest sides
+  abbrev pub Sides : ℕ → Type 0
+  Sides n = (m : ℕ) × (n ≡ m * side (S .deepest))
+
   pub record Moment (t u v excess : ℕ) : Type 0 where
     pub no-earlier : (m : Place) → Domain S m → Close S m → t * m .q ≤ m .a * parts
     pub domain : Domain S (record { q = parts; a = t; b = u; c = v })
     pub size : (axis : Axis) → natAbs (S .gap axis parts t u v) ≤ (S .separation axis + excess) * unit
+    pub sides : Sides t × (Sides u × Sides v)
 
   abbrev pub Kept : Answer → Type 0
   Kept (Met t u v excess n) = Moment t u v excess × (excess ≤ S .tolerance)
@@ -71,6 +77,12 @@ module _ (S : Query) (H : HasKernel S) (deep : S .deepest ≤ 20) where
       le-trans (mul-le-mul-right (m .q) (mul-le-mul-right (side (k .t)) (f .0))) (omega (arith, w .t .above, mul-comm (m .q) (low (k .t) (b .t)), mul-comm parts (m .a)))
   not-before k n m (b ∷ bs) f (inr w) = not-before k n m bs (f .1) w
 
+  -- its ends are whole numbers of the finest sides
+  low-sides : {k : ℕ} (i : ℕ) → k ≤ S .deepest → Sides S (low k i)
+  low-sides {k} i h =
+      let e : 20 - k ≡ (S .deepest - k) + (20 - S .deepest) = omega (arith, deep) in
+      (i * 2 ^ (S .deepest - k), ap (λ (n : ℕ). i * n) (ap (λ (n : ℕ). 2 ^ n) e ∙ pow-add 2 (S .deepest - k) (20 - S .deepest)) ∙ sym (mul-assoc i (2 ^ (S .deepest - k)) (side (S .deepest))))
+
   first-recorded : (k : Depths) (b : Box) (l : List Box) → Level S k (b ∷ l) → Recorded S (corner S k b)
   unfolding corner
   first-recorded k b l L =
@@ -78,6 +90,7 @@ module _ (S : Query) (H : HasKernel S) (deep : S .deepest ≤ 20) where
         no-earlier = λ m d close. not-before k (b .t) m (b ∷ l) (le-refl (b .t), L .ascending .0) (L .cover m d close);
         domain = low-domain S k b deep (L .shallow) (L .grid .0 .0) (L .grid .0 .1);
         size = low-size S k b;
+        sides = (low-sides (b .t) (L .shallow .t), (low-sides (b .u) (L .shallow .u), low-sides (b .v) (L .shallow .v)));
       }
 
   -- the level after it

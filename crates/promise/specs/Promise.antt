@@ -8,12 +8,12 @@ use lib.Dec.{T}
 use Rattle.rules.specs.declared.Record.{Record}
 use Rattle.rules.specs.declared.Answer.the-variants.{Refused}
 use Rattle.rules.specs.declared.Told.{Told}
-use Rattle.rules.specs.Numbers.{parts}
+use Rattle.rules.specs.Numbers.{limitsOf, parts}
 use Rattle.rules.specs.declared.Axis.{Axis}
 use Rattle.rules.specs.Gap.{gapOn, sided, isVertexFace, separationOn, Place, OnBodies, Contact}
 use Rattle.rules.specs.Answers.{told, hasMoment}
 use Rattle.rules.specs.Refusals.{searchRefusal}
-use Rattle.rules.specs.Search.{search}
+use Rattle.rules.specs.Search.{side, search}
 
 -- ---- an answer
 
@@ -44,6 +44,13 @@ There r a = T (hasMoment a) → OnBodies r (answered a) × Within r (a .excess) 
 abbrev pub Within-tolerance : Record → Told → Type 0
 Within-tolerance r a = a .word ≡ 1 → a .excess ≤ r .tolerance
 
+-- what is told is a box's corner: t, u and v are whole numbers of the finest sides, which are one part, and two in edition 3; "times .. are then even"
+abbrev pub InSides : Record → ℕ → Type 0
+InSides r n = (m : ℕ) × (n ≡ m * side (limitsOf (r .edition) .deepest))
+
+abbrev pub On-the-grid : Record → Told → Type 0
+On-the-grid r a = InSides r (a .t) × (InSides r (a .u) × InSides r (a .v))
+
 -- and the first two by a margin: of every place that is less than 1/(parts·parts) from contact. So an irrational contact is not missed either: rational
 -- places as near to it as one likes would be such (that step is analysis, and on paper)
 abbrev pub NearContact : Record → Place → Type 0
@@ -60,12 +67,20 @@ pub record Promised (r : Record) (a : Told) : Type 0 where
   pub there : There r a
   pub within-tolerance : Within-tolerance r a
   pub by-a-margin : By-a-margin r a
+  pub on-the-grid : On-the-grid r a
 
 -- ---- of the written search
 
 -- demand 3: the search of every record, with every number of queue words
 abbrev pub Demand-3 : Type 0
 Demand-3 = (r : Record) (words : ℕ) → Promised r (told (search r words))
+
+-- so in edition 3 (document 02, R-11) every told t, u and v is even
+abbrev pub Even : ℕ → Type 0
+Even n = (m : ℕ) × (n ≡ m * 2)
+
+abbrev pub Even-in-edition-3 : Type 0
+Even-in-edition-3 = (r : Record) (words : ℕ) → r .edition ≡ 3 → let a : Told = told (search r words) in Even (a .t) × (Even (a .u) × Even (a .v))
 
 -- refused with n exactly when n is the lowest of 1 to 7 that is due; so what is not refused is answered, and never cut off
 abbrev pub Refused-exactly : Type 0
