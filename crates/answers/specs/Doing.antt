@@ -3,7 +3,7 @@ use Prim.Native.Nat.{ℕ, zero, suc}
 use mathlib.Core.Path.{_≡_, refl}
 use mathlib.Core.List.{List}
 use Rattle.rules.specs.QueryFile.{put, putUnless}
-use Rattle.answers.specs.Walk.{queueUnless, Does}
+use Rattle.answers.specs.Walk.{queueUnless, Does, Counted}
 
 pub refuses : (number : ℕ) {refusal : ℕ} (numbers after queue out : List ℕ) → number ≡ refusal → (number ≡ 0 → ⊥) → Does refusal numbers after queue queue out out number
 unfolding putUnless queueUnless
@@ -14,3 +14,14 @@ pub answers : {refusal : ℕ} {numbers after queue queue′ out out′ : List �
     → Does refusal numbers after queue queue′ out out′ 0
 unfolding putUnless queueUnless
 answers e t l = record { says = e; told = t; left = l }
+
+-- ---- no second outcome fits what is promised, so that no part of it can be lost unseen
+
+pub does-once : {refusal : ℕ} {numbers after queue queue′ queue″ out out′ out″ : List ℕ} {number number′ : ℕ}
+    → Does refusal numbers after queue queue′ out out′ number
+    → Does refusal numbers after queue queue″ out out″ number′
+    → (number ≡ number′) × (out′ ≡ out″) × (queue′ ≡ queue″)
+does-once v w = (cc, cc, cc)
+
+pub counted-once : {s out out′ out″ : List ℕ} {number number′ : ℕ} → Counted s out out′ number → Counted s out out″ number′ → (number ≡ number′) × (out′ ≡ out″)
+counted-once v w = (cc, cc)

@@ -16,6 +16,10 @@ pub record Answered (w : Terms) (a b : Body) (queue queue′ : List ℕ) (r : Bo
   pub says : r ≡ bodySearch w a b (length queue)
   pub left : queue′ ≡ queueAfterBodies (bodySearch w a b (length queue)) queue
 
+-- no second answer and no second queue fit that
+pub answered-once : {w : Terms} {a b : Body} {queue queue′ queue″ : List ℕ} {r r′ : BodyAnswer} → Answered w a b queue queue′ r → Answered w a b queue queue″ r′ → (r ≡ r′) × (queue′ ≡ queue″)
+answered-once v w = (cc, cc)
+
 -- the sum of counts in two numbers of 32 bits
 abbrev pub low : ℕ → ℕ
 low sum = sum % 4294967296

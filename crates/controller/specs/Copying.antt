@@ -21,6 +21,13 @@ pub record Puts (refusal : ℕ) (bytes out : List ℕ) (at : ℕ) (out′ : List
   pub says : number ≡ refusal
   pub leaves : out′ ≡ putUnless number out at bytes
 
+-- no second number and no second buffer fit that
+pub puts-once : {refusal : ℕ} {bytes out : List ℕ} {at : ℕ} {out′ out″ : List ℕ} {number number′ : ℕ}
+    → Puts refusal bytes out at out′ number
+    → Puts refusal bytes out at out″ number′
+    → (number ≡ number′) × (out′ ≡ out″)
+puts-once v w = (cc, cc)
+
 abbrev pub Copied : List ℕ → ℕ → ℕ → List ℕ → ℕ → List ℕ → ℕ → Type 0
 Copied file n edition out at out′ number = Puts (copyRefusal file n edition out at) (recordBytes edition (fetched file n .query)) out at out′ number
 

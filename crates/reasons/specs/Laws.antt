@@ -4,6 +4,7 @@
 --     has-room        and there was room to tell it
 --     on-grid         a box that is named is one of the grid
 --     told-kept       what is told keeps the promises of promise/specs/Why.antt
+--     rules-once      no second answer or queue fits what `rule` promises
 --     tells-once      no second number, told numbers or queue fit what `tell` promises
 -- Assumes nothing.
 use Prim.Native.Nat.{ℕ, zero, suc}
@@ -25,7 +26,7 @@ use Rattle.rules.specs.Why.{inDomain, isBefore, fromWhole, whyRefusal, unlessWh
 use Rattle.kernel.specs.Ranges.{OnGrid}
 use Rattle.promise.specs.Why.{Holds, Named, First}
 use Rattle.promise.proofs.Why.Promised.{names-discarded, names-the-first, has-box}
-use Rattle.reasons.specs.Telling.{asked, fileRefusal, fileRuling, TellsWhy}
+use Rattle.reasons.specs.Telling.{asked, fileRefusal, fileRuling, TellsWhy, Rules}
 
 module _ (file : List ℕ) (n : ℕ) (at : Three) (room : Bool) (words : ℕ) where
   abbrev r : Record
@@ -109,6 +110,12 @@ told-kept file n at queue queue′ out out′ w =
     let box = has-box (asked file n) words at (none-due file n at (leb 9 (length out)) words none) in
     let is = its-own file n at (leb 9 (length out)) words none ∙ box .1 in
     (box .0, w .told ∙ ap (λ (a : Ruling). put out 0 (toldWhy a)) is, names-discarded (asked file n) words at (box .0) (box .1), names-the-first (asked file n) words at (box .0) (box .1))
+
+pub rules-once : {file : List ℕ} {n : ℕ} {at : Three} {room : Bool} {queue queue′ queue″ : List ℕ} {answer answer′ : Ruling}
+    → Rules file n at room queue queue′ answer
+    → Rules file n at room queue queue″ answer′
+    → (answer ≡ answer′) × (queue′ ≡ queue″)
+rules-once v w = (cc, cc)
 
 pub tells-once : {file : List ℕ} {n : ℕ} {at : Three} {queue queue′ queue″ out out′ out″ : List ℕ} {number number′ : ℕ}
     → TellsWhy file n at queue queue′ out out′ number
