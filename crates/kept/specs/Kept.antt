@@ -1,0 +1,51 @@
+-- What `taperhive_answer`, `taperhive_answers` and `taperhive_bodies` tell keeps the promises (promise/specs), by their own contracts alone: so demand 3 is
+-- a theorem of the functions that are shipped. That of `taperhive_why` is `told-kept` in reasons/specs/Laws.antt.
+use Prim.Native.Nat.{ℕ, zero, suc, _+_}
+use mathlib.Core.Path.{_≡_, refl}
+use mathlib.Core.List.{List}
+use lib.ListN.{length, take, drop}
+use Rattle.rules.specs.declared.Record.{Record}
+use Rattle.rules.specs.declared.Terms.{Terms}
+use Rattle.rules.specs.Answers.{told}
+use Rattle.rules.specs.Search.{search}
+use Rattle.rules.specs.Bodies.{Body, bodySearch}
+use Rattle.rules.specs.QueryFile.{recordSize, recordAt, recordCount, editionOf, placeOf, putUnless, put}
+use Rattle.answers.specs.Eight.{eight}
+use Rattle.answers.specs.Walk.{One, Every, tells, tellsFrom}
+use Rattle.bodies.specs.Telling.{Tells, bodyTold}
+use Rattle.promise.specs.Promise.{Promised}
+use Rattle.promise.specs.Bodies.{BodiesPromised}
+use Rattle.promise.proofs.Demands.{demand-3}
+use Rattle.promise.proofs.Bodies.Promised.{demand-bodies}
+
+-- of n records of an edition, the first at a place: eight numbers each, which are those of the written search and keep demand 3
+unfoldable pub EachKept : ℕ → List ℕ → ℕ → ℕ → ℕ → List ℕ → Type 0
+EachKept edition s words zero at numbers = Unit
+EachKept edition s words (suc n) at numbers =
+    let r : Record = recordAt edition s at in
+    (take 8 numbers ≡ eight (r .id) (told (search r words))) × (Promised r (told (search r words)) × EachKept edition s words n (at + recordSize edition) (drop 8 numbers))
+
+pub each-kept : (edition : ℕ) (s : List ℕ) (words n at : ℕ) → EachKept edition s words n at (tellsFrom edition s words n at)
+unfolding EachKept tellsFrom tells
+each-kept edition s words zero at = tt
+each-kept edition s words (suc n) at = (refl, (demand-3 (recordAt edition s at) words, each-kept edition s words n (at + recordSize edition)))
+
+-- `taperhive_answer`, where it returns 0
+pub answer-kept : (s : List ℕ) (n : ℕ) (queue queue′ out out′ : List ℕ) → One s n queue queue′ out out′ 0
+    → let r : Record = recordAt (editionOf s) s (placeOf s n) in
+    (out′ ≡ put out 0 (eight (r .id) (told (search r (length queue))))) × Promised r (told (search r (length queue)))
+unfolding putUnless tells
+answer-kept s n queue queue′ out out′ h = (h .told, demand-3 (recordAt (editionOf s) s (placeOf s n)) (length queue))
+
+-- `taperhive_answers`, where it returns 0
+pub answers-kept : (s queue queue′ out out′ : List ℕ) → Every s queue queue′ out out′ 0
+    → let numbers : List ℕ = tellsFrom (editionOf s) s (length queue) (recordCount s) (placeOf s 0) in
+    (out′ ≡ put out 0 numbers) × EachKept (editionOf s) s (length queue) (recordCount s) (placeOf s 0) numbers
+unfolding putUnless
+answers-kept s queue queue′ out out′ h = (h .told, each-kept (editionOf s) s (length queue) (recordCount s) (placeOf s 0))
+
+-- `taperhive_bodies`, where it returns 0
+pub bodies-kept : (w : Terms) (a b : Body) (queue queue′ out out′ : List ℕ) → Tells w a b queue queue′ out out′ 0
+    → (out′ ≡ put out 0 (bodyTold (bodySearch w a b (length queue)))) × BodiesPromised w a b (length queue) (bodySearch w a b (length queue))
+unfolding putUnless
+bodies-kept w a b queue queue′ out out′ h = (h .told, demand-bodies w a b (length queue))

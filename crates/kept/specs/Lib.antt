@@ -1,0 +1,2 @@
+-- What the library tells keeps the promises.
+pub mod Kept
