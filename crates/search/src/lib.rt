@@ -125,23 +125,22 @@ fn check_level(p: Pair, queue: &mut [u64], l: Level) -> Step
     let k = l.depths;
     let n = l.size;
     let mut corner = l.corner;
-    let mut count = l.count;
     let mut i = 0;
     let mut m = 0;
     let mut slab = first_slab(p, k, queue, n);
     while i < n {
         let w = queue[i];
-        i += 1;
         let b = unpack(w);
         slab = renewed(p, k, b.t, slab);
-        match check_box(p, k, slab, b, 0 < m, corner, count) {
+        // each box before it is counted: no count of its own, which would be one number more to keep
+        match check_box(p, k, slab, b, 0 < m, corner, l.count + i as u32) {
             Seen::Ends(a) => return Step::Ends(a),
-            Seen::Lost => count += 1,
+            Seen::Lost => i += 1,
             Seen::Survives(c) => {
                 corner = c;
-                count += 1;
                 queue[m] = w;
                 m += 1;
+                i += 1;
             }
         }
     }
@@ -150,7 +149,7 @@ fn check_level(p: Pair, queue: &mut [u64], l: Level) -> Step
         size: m,
         used: l.used,
         corner,
-        count,
+        count: l.count + i as u32,
     })
 }
 
