@@ -1,13 +1,13 @@
 -- A pair that asks of the written search what a record asks, and that is in range.
 use mathlib.Core.Path.{_≡_, refl, sym, ap, ap₂, _∙_}
 use mathlib.Core.Bool.{Bool, true, false, _&&_}
-use Prim.Native.Nat.{ℕ, _%_, _^_, _≤_}
+use Prim.Native.Nat.{ℕ, _%_, _^_}
 use native.Mathlib.Omega.{arith}
 use lib.Dec.{eqb, lit≤}
 use lib.IntN.{pos}
 use Rattle.whole.specs.Within.{within-more}
 use Rattle.rules.specs.declared.Record.{Record}
-use Rattle.rules.specs.Numbers.{limitsBy, limitsOf, half}
+use Rattle.rules.specs.Numbers.{limitsOf, half}
 use Rattle.rules.specs.declared.Axis.{Axis}
 use Rattle.rules.specs.declared.Axis.the-variants.{X, Y, Z}
 use Rattle.rules.specs.Gap.{place, gapOn, isVertexFace, sided, separationOn}
@@ -17,7 +17,7 @@ use Rattle.kernel.specs.declared.Kernel.{Kernel}
 use Rattle.kernel.specs.declared.Pair.{Pair}
 use Rattle.kernel.specs.Kernel.{kern, kernelOf, asked, onAxis, apartOn}
 use Rattle.kernel.specs.Same.{gap-kernel}
-use Rattle.kernel.specs.Ranges.{Held, Ranged, editions-held}
+use Rattle.kernel.specs.Ranges.{Held, Ranged, editions-held, editions-deep}
 use Rattle.refusals.specs.Accepted.{accepted-search}
 use Rattle.gap.specs.Corners.{meets}
 use Rattle.gap.specs.Cube.{wholeCube}
@@ -97,7 +97,7 @@ module _ (r : Record) (words : ℕ) where
         asks = pair-asks;
         ranged =
             record {
-              deepest = deep (eqb (r .edition) 3);
+              deepest = editions-deep (eqb (r .edition) 3);
               x = small 0 (isY X && flagged r) (isVertexFace r);
               y = small 1 (isY Y && flagged r) (isVertexFace r);
               z = small 2 (isY Z && flagged r) (isVertexFace r);
@@ -111,10 +111,6 @@ module _ (r : Record) (words : ℕ) where
               room = omega (arith, h .words-most);
             };
       }
-    where
-      deep : (longer : Bool) → limitsBy longer .deepest ≤ 20
-      deep true = lit≤ tt
-      deep false = lit≤ tt
 
 -- ---- the whole cube, axis by axis as they are reached
 

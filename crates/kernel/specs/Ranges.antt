@@ -22,6 +22,11 @@ pub editions-held : (longer : Bool) → Held (limitsBy longer .coordinate) (2 ^ 
 editions-held false = record { coordinate-most = lit≤ tt; parts-least = lit≤ tt; parts-most = lit≤ tt; product = lit≤ tt }
 editions-held true = record { coordinate-most = lit≤ tt; parts-least = lit≤ tt; parts-most = lit≤ tt; product = lit≤ tt }
 
+-- and none goes deeper than 20
+pub editions-deep : (longer : Bool) → limitsBy longer .deepest ≤ 20
+editions-deep false = lit≤ tt
+editions-deep true = lit≤ tt
+
 -- differences of two coordinates within a limit that goes with q parts
 pub record Small (q : ℕ) (K : Kernel) : Type 0 where
   pub coordinate : ℕ

@@ -2,17 +2,18 @@
 use mathlib.Core.Path.{_≡_, subst}
 use mathlib.Core.Bool.{Bool, true, false, not, cond, _&&_}
 use mathlib.Core.List.{List, [], _∷_, _++_}
-use Prim.Native.Nat.{ℕ, _<_, _≤_}
+use Prim.Native.Nat.{ℕ, _<_}
 use native.Mathlib.Omega.{arith}
-use lib.Dec.{T, leb, ltb, eqb, leb→le, ltb→lt, lit≤}
+use lib.Dec.{T, leb, ltb, eqb, leb→le, ltb→lt}
 use Rattle.rules.specs.declared.Record.{Record}
 use Rattle.rules.specs.declared.Answer.the-variants.{Refused}
-use Rattle.rules.specs.Numbers.{limitsBy, isBudget, isQueue}
+use Rattle.rules.specs.Numbers.{isBudget, isQueue}
 use Rattle.rules.specs.Gap.{sided, isVertexFace}
 use Rattle.rules.specs.Refusals.{Case, first, recordCases, searchRefusal}
 use Rattle.rules.specs.Search.{query, run}
 use Rattle.kernel.specs.Kernel.{kernelOf}
 use Rattle.kernel.specs.Same.{gap-kernel}
+use Rattle.kernel.specs.Ranges.{editions-deep}
 use Rattle.promise.proofs.Box.{HasKernel}
 use Rattle.promise.proofs.Survive.{and-both}
 use Rattle.promise.proofs.Levels.{Kept, run-kept}
@@ -58,13 +59,8 @@ record-kernel r words =
       same = λ axis q a b c. gap-kernel (sided r) axis q a b c (isVertexFace r);
     }
 
--- no edition goes deeper than 20
-pub deep : (longer : Bool) → limitsBy longer .deepest ≤ 20
-deep true = lit≤ tt
-deep false = lit≤ tt
-
 pub accepted-kept : (r : Record) (words : ℕ) → searchRefusal r words ≡ 0 → Kept (query r words) (run (query r words))
-accepted-kept r words e = run-kept (query r words) (record-kernel r words) (deep (eqb (r .edition) 3)) (accepted-budget r words e)
+accepted-kept r words e = run-kept (query r words) (record-kernel r words) (editions-deep (eqb (r .edition) 3)) (accepted-budget r words e)
 
 -- 61 levels are enough: an accepted search is never cut off
 pub run-ended : (r : Record) (words n : ℕ) → searchRefusal r words ≡ 0 → run (query r words) ≡ Refused n → ⊥

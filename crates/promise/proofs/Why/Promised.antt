@@ -19,10 +19,11 @@ use Rattle.rules.specs.Answers.{told, hasMoment}
 use Rattle.rules.specs.Refusals.{first, orElse, searchRefusal}
 use Rattle.rules.specs.Search.{Query, query, Checked, afterLevel, ifRoom, levels, run, search, unless}
 use Rattle.rules.specs.Why.{inDomain, isBefore, wholeDomain, fromWhole, whyRefusal, unlessWhy, whySearch}
+use Rattle.kernel.specs.Ranges.{editions-deep}
 use Rattle.promise.specs.Why.{pointed, down, whole, next, Own-levels, WasDiscarded, Named, Names-discarded, First, Names-the-first, NotYet, Named-exactly, Why-refused-exactly}
 use Rattle.promise.proofs.Survive.{and-both, and-intro}
 use Rattle.promise.proofs.Domain.{Domain, on-bodies}
-use Rattle.promise.proofs.Accepted.{record-kernel, deep}
+use Rattle.promise.proofs.Accepted.{record-kernel}
 use Rattle.promise.proofs.Why.Way.{whole-holds, named-first}
 use Rattle.promise.proofs.Why.Down.{Rules, run-rules}
 
@@ -45,7 +46,7 @@ module _ (r : Record) (words : ℕ) (at : Three) where
   ruled : searchRefusal r words ≡ 0 → Domain (query r words) (pointed at) → T (isBefore (search r words) (at .t)) → Rules (query r words) at (fromWhole r words at)
   unfolding search unless
   ruled e d t =
-      run-rules (query r words) at (record-kernel r words) (deep (eqb (r .edition) 3)) d
+      run-rules (query r words) at (record-kernel r words) (editions-deep (eqb (r .edition) 3)) d
       (subst (λ (n : ℕ). T (isBefore (unless n (run (query r words))) (at .t))) e t)
 
   -- the tests of the point
@@ -154,7 +155,7 @@ unfolding whySearch unlessWhy
 names-the-first r words at x e = go (whyRefusal r words at) refl e
   where
     go : (n : ℕ) → whyRefusal r words at ≡ n → unlessWhy n (fromWhole r words at) ≡ Discarded x → First (query r words) at x
-    go zero f e = let d = to-domain r words at (none-due r words at f .1) in named-first at (query r words) x (deep (eqb (r .edition) 3)) (whole-holds at (d .t) (d .u) (d .v)) e
+    go zero f e = let d = to-domain r words at (none-due r words at f .1) in named-first at (query r words) x (editions-deep (eqb (r .edition) 3)) (whole-holds at (d .t) (d .u) (d .v)) e
     go (suc n) f e = let z : _≡_ {A = ℕ} 0 1 = cc in absurd (omega arith)
 
 -- so the search discarded none of the boxes before it
