@@ -25,7 +25,7 @@ and-assoc true b c = refl
 and-assoc false b c = refl
 
 -- z first, then x, then y
-height-first : (x y z : Bool) → (z && (x && y)) ≡ (x && y && z)
+pub height-first : (x y z : Bool) → (z && (x && y)) ≡ (x && y && z)
 height-first true true true = refl
 height-first true true false = refl
 height-first true false true = refl

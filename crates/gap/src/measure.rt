@@ -90,9 +90,9 @@ pub fn thin(p: Pair, w: Cell) -> bool
     requires { ⌜ Over p w ⌝ }
     ensures { λ r. ⌜ r ≡ isThin p w ⌝ }
 {
-    if narrow(p.x, w, p.tolerance) {
-        if narrow(p.y, w, p.tolerance) {
-            narrow(p.z, w, p.tolerance)
+    if narrow(p.z, w, p.tolerance) {
+        if narrow(p.x, w, p.tolerance) {
+            narrow(p.y, w, p.tolerance)
         } else {
             false
         }

@@ -7,8 +7,8 @@ use native.Mathlib.Numerals.{add-one}
 use native.Mathlib.Omega.{arith}
 use lib.Dec.{ltb}
 use lib.ListN.{length, getD, set, take, drop, length-set, drop-of-length-le}
-use lib.Seq.{drop-set-lt, take-suc-set, length-take-le}
-use borrow.Author.Tests.{eq-eqb, ne-eqb, lt-ltb, ltb-true}
+use lib.Seq.{drop-set-lt, take-set-le, take-suc-set, length-take-le}
+use borrow.Author.Tests.{eq-eqb, ne-eqb, lt-ltb}
 use Rattle.rules.specs.declared.Corner.{Corner}
 use Rattle.rules.specs.declared.Answer.{Answer}
 use Rattle.rules.specs.declared.Answer.the-variants.{Met, Spent, Floor}
@@ -19,11 +19,11 @@ use Rattle.boxes.specs.Boxes.{boxOf}
 use Rattle.queue.specs.All.{All, all-snoc, all-front}
 use Rattle.queue.specs.Level.{OfLevel}
 use Rattle.queue.specs.Walk.{same-at, same-after, part-cons}
-use Rattle.search.specs.declared.Seen.{Seen}
-use Rattle.search.specs.declared.Seen.the-variants.{Ends as EndsAt, Lost, Survives}
+use Rattle.search.specs.declared.First.{First}
+use Rattle.search.specs.declared.First.the-variants.{Ends as EndsAt, Recorded}
 use Rattle.search.specs.declared.Level.{Level}
 use Rattle.search.specs.declared.Step.the-variants.{Ends, Goes}
-use Rattle.search.specs.Levels.{OneBox, afterBox, NotFull, FirstIs, Within, BoxIs, boxes, Tidy, Fine, CheckIs}
+use Rattle.search.specs.Levels.{OneBox, afterFirst, NotFull, FirstIs, boxes, Tidy, Fine, CheckIs}
 use Rattle.search.proofs.Tidying.{tidy-front}
 
 -- ---- a level's first survivor
@@ -31,48 +31,15 @@ use Rattle.search.proofs.Tidying.{tidy-front}
 module _ (q : Query) (k : Depths) (box : Box) (n : ℕ) (c : Corner) (e : c ≡ corner q k box) where
   pub first-met : near q k box ≡ true → FirstIs q k box n (EndsAt (withCount Met c n))
   unfolding firstSurvivor
-  first-met h = record { says = λ d on. rw (h, e); not-full = tt }
+  first-met h = record { says = λ on. rw (h, e); not-full = tt }
 
   pub first-floor : near q k box ≡ false → full q k ≡ true → FirstIs q k box n (EndsAt (withCount Floor c n))
   unfolding firstSurvivor
-  first-floor h f = record { says = λ d on. rw (h, f, e); not-full = tt }
+  first-floor h f = record { says = λ on. rw (h, f, e); not-full = tt }
 
-  pub first-goes : near q k box ≡ false → full q k ≡ false → FirstIs q k box n (Survives c)
+  pub first-goes : near q k box ≡ false → full q k ≡ false → FirstIs q k box n (Recorded c)
   unfolding firstSurvivor
-  first-goes h f = record { says = λ d on. rw (h, f, e); not-full = f }
-
--- ---- one box
-
-module _ (q : Query) (k : Depths) (box : Box) (seen : Bool) (c : Corner) (n : ℕ) where
-  pub box-spent : n ≡ q .budget → BoxIs q k box seen c n (EndsAt (withCount Spent c n))
-  unfolding oneBox
-  box-spent e = record { says = λ on. rw (eq-eqb n (q .budget) e); not-full = λ h. tt; within = tt }
-
-  module _ (most : n ≤ q .budget) (left : n ≡ q .budget → ⊥) where
-    pub box-lost : survives q k box ≡ false → BoxIs q k box seen c n Lost
-    unfolding oneBox
-    box-lost e = record { says = λ on. rw (ne-eqb n (q .budget) left, e); not-full = λ h. tt; within = omega arith }
-
-    pub box-again : survives q k box ≡ true → seen ≡ true → BoxIs q k box seen c n (Survives c)
-    unfolding oneBox
-    box-again e h = record {
-      says = λ on. rw (ne-eqb n (q .budget) left, e, h);
-      not-full = λ f. absurd (let z : _≡_ {A = ℕ} 0 1 = cc in omega arith);
-      within = omega arith;
-    }
-
-    within-first : (r : Seen) → NotFull q k r → Within q n r
-    within-first (EndsAt a) h = h
-    within-first Lost h = omega arith
-    within-first (Survives d) h = omega arith
-
-    pub box-first : survives q k box ≡ true → seen ≡ false → (r : Seen) → FirstIs q k box (n + 1) r → BoxIs q k box seen c n r
-    unfolding oneBox
-    box-first e h r f = record {
-      says = λ on. rw (ne-eqb n (q .budget) left, e, h) (f .says c on);
-      not-full = λ g. f .not-full;
-      within = within-first r (f .not-full);
-    }
+  first-goes h f = record { says = λ on. rw (h, f, e); not-full = f }
 
 -- ---- the level
 
@@ -144,44 +111,79 @@ module _ (p : Pair) (l : Level) (old : List ℕ) (fine : Fine p old l) where
       opened : drop i (take (l .size) old) ≡ getD new i 0 ∷ drop (i + 1) (take (l .size) old)
       opened = rw (same-at i new old (k .unread)) (part-cons i (l .size) old more fits)
 
-      next : (r : Seen) → BoxIs (asked p) (l .depths) box (ltb 0 m) corner count r
-          → pre (map boxOf (take m new)) (afterBox box (ltb 0 m) corner r (λ s d. check (asked p) (l .depths) rest s d (count + 1))) ≡ whole
-      unfolding check
-      next r x = ap (pre (map boxOf (take m new))) (sym (x .says (λ s d. check (asked p) (l .depths) rest s d (count + 1)))) ∙ rw opened at (k .done)
+      -- the box is written to the end of the survivors
+      abbrev put : List ℕ
+      put = set new m (getD new i 0)
 
-      pub checks-ends : (a : Answer) → BoxIs (asked p) (l .depths) box (ltb 0 m) corner count (EndsAt a) → CheckIs p l old new (Ends a)
-      checks-ends a x = record { says = sym (next (EndsAt a) x); left = (x .within, left-tidy) }
+      unread-put : drop (i + 1) put ≡ drop (i + 1) old
+      unread-put = drop-set-lt (i + 1) new m (getD new i 0) (omega (arith, k .m-le)) ∙ same-after i new old (k .unread)
 
-      pub checking-lost : BoxIs (asked p) (l .depths) box (ltb 0 m) corner count Lost → Checking p l old new corner (count + 1) (i + 1) m
-      checking-lost x = record {
-        i-le = omega arith;
-        m-le = omega (arith, k .m-le);
-        len = k .len;
-        within = omega (arith, x .within);
-        unread = same-after i new old (k .unread);
-        grid = k .grid;
-        not-full = k .not-full;
-        done = next Lost x;
-      }
+      len-put : length put ≡ length old
+      len-put = length-set new m (getD new i 0) ∙ k .len
 
-      still-full : (b : Bool) → ltb 0 m ≡ b → (b ≡ false → full (asked p) (l .depths) ≡ false) → full (asked p) (l .depths) ≡ false
-      still-full true e f = k .not-full (ltb-true 0 m e)
-      still-full false e f = f refl
+      -- the box is checked: the budget does not end before it
+      module _ (left : count < p .budget) where
+        checked : (alive : Bool) → survives (asked p) (l .depths) box ≡ alive
+            → pre (map boxOf (take m new)) (oneBox (asked p) (l .depths) box false alive (ltb 0 m) corner count (λ s d. check (asked p) (l .depths) rest s d (count + 1))) ≡ whole
+        unfolding check
+        checked alive e = rw (opened, ne-eqb count (p .budget) (λ z. omega arith), e) at (k .done)
 
-      pub checking-survives : (d : Corner) → BoxIs (asked p) (l .depths) box (ltb 0 m) corner count (Survives d)
-          → Checking p l old (set new m (getD new i 0)) d (count + 1) (i + 1) (m + 1)
-      checking-survives d x =
-          let long : m < length new = omega (arith, k .m-le, k .len, fits) in
-          record {
-            i-le = omega arith;
-            m-le = omega (arith, k .m-le);
-            len = length-set new m (getD new i 0) ∙ k .len;
-            within = omega (arith, x .within);
-            unread = drop-set-lt (i + 1) new m (getD new i 0) (omega (arith, k .m-le)) ∙ same-after i new old (k .unread);
-            grid = rw (add-one m, take-suc-set new m (getD new i 0) long) (all-snoc (OfLevel (l .depths)) (take m new) (getD new i 0) (k .grid) of-level);
-            not-full = λ h. still-full (ltb 0 m) refl (x .not-full);
-            done = rw (lt-ltb 0 (m + 1) (omega arith), add-one m, take-suc-set new m (getD new i 0) long, map-append) (pre-more (map boxOf (take m new)) box (check (asked p) (l .depths) rest true d (count + 1)) ∙ next (Survives d) x);
+        pub checking-lost : survives (asked p) (l .depths) box ≡ false → Checking p l old put corner (count + 1) (i + 1) m
+        unfolding oneBox
+        checking-lost e =
+            let same : take m put ≡ take m new = take-set-le m new m (getD new i 0) (omega arith) in
+            record {
+              i-le = omega arith;
+              m-le = omega (arith, k .m-le);
+              len = len-put;
+              within = omega arith;
+              unread = unread-put;
+              grid = rw same (k .grid);
+              not-full = k .not-full;
+              done = rw same (checked false e);
+            }
+
+        -- one survivor more, with what is recorded then
+        kept : (d : Corner) → full (asked p) (l .depths) ≡ false → pre (map boxOf (take m new)) (keep box (check (asked p) (l .depths) rest true d (count + 1))) ≡ whole
+            → Checking p l old put d (count + 1) (i + 1) (m + 1)
+        kept d f e =
+            let long : m < length new = omega (arith, k .m-le, k .len, fits) in
+            record {
+              i-le = omega arith;
+              m-le = omega (arith, k .m-le);
+              len = len-put;
+              within = omega arith;
+              unread = unread-put;
+              grid = rw (add-one m, take-suc-set new m (getD new i 0) long) (all-snoc (OfLevel (l .depths)) (take m new) (getD new i 0) (k .grid) of-level);
+              not-full = λ h. f;
+              done = rw (lt-ltb 0 (m + 1) (omega arith), add-one m, take-suc-set new m (getD new i 0) long, map-append) (pre-more (map boxOf (take m new)) box (check (asked p) (l .depths) rest true d (count + 1)) ∙ e);
+            }
+
+        pub checking-again : survives (asked p) (l .depths) box ≡ true → 0 < m → Checking p l old put corner (count + 1) (i + 1) (m + 1)
+        unfolding oneBox
+        checking-again e some = kept corner (k .not-full some) (rw (lt-ltb 0 m some) at (checked true e))
+
+        module _ (none : m ≡ 0) (alive : survives (asked p) (l .depths) box ≡ true) where
+          first : (r : First) → FirstIs (asked p) (l .depths) box (count + 1) r
+              → pre (map boxOf (take m new)) (afterFirst box r (λ d. check (asked p) (l .depths) rest true d (count + 1))) ≡ whole
+          unfolding oneBox
+          first r x =
+              let not-yet : ltb 0 m ≡ false = rw none in
+              ap (pre (map boxOf (take m new))) (sym (x .says (λ d. check (asked p) (l .depths) rest true d (count + 1)))) ∙ rw not-yet at (checked true alive)
+
+          pub checks-first : (a : Answer) → FirstIs (asked p) (l .depths) box (count + 1) (EndsAt a) → CheckIs p l old put (Ends a)
+          checks-first a x = record {
+            says = sym (first (EndsAt a) x);
+            left = (x .not-full, tidy-front (p .room) (l .used) (i + 1) put old (omega (arith, fine .size)) unread-put (fine .tidy));
           }
+
+          pub checking-first : (d : Corner) → FirstIs (asked p) (l .depths) box (count + 1) (Recorded d) → Checking p l old put d (count + 1) (i + 1) (m + 1)
+          checking-first d x = kept d (x .not-full) (first (Recorded d) x)
+
+      -- the budget ends before it
+      pub checks-spent : count ≡ p .budget → CheckIs p l old new (Ends (withCount Spent corner count))
+      unfolding check oneBox
+      checks-spent e = record { says = sym (rw (opened, eq-eqb count (p .budget) e) at (k .done)); left = (tt, left-tidy) }
 
     pub checks-all : l .size ≤ i → CheckIs p l old new (Goes (record { depths = l .depths; size = m; used = l .used; corner = corner; count = count }))
     unfolding check

@@ -3,7 +3,6 @@ use mathlib.Core.Path.{_≡_}
 use mathlib.Core.Bool.{Bool, true, false}
 use mathlib.Core.List.{List, map}
 use Prim.Native.Nat.{ℕ, _+_, _/_, _≤_, _<_}
-use lib.Dec.{eqb}
 use lib.ListN.{length, getD, take, replicate}
 use Rattle.rules.specs.declared.Record.{Record}
 use Rattle.rules.specs.declared.Corner.{Corner}
@@ -12,15 +11,15 @@ use Rattle.rules.specs.declared.Answer.the-variants.{Met, Clear, Spent, Room, F
 use Rattle.rules.specs.declared.Parameter.{Parameter}
 use Rattle.rules.specs.declared.Parameter.the-variants.{InT, InU, InV}
 use Rattle.rules.specs.Refusals.{searchRefusal}
-use Rattle.rules.specs.Search.{Query, Box, Depths, Checked, answered, through, keep, survives, near, full, corner, firstSurvivor, oneBox, check, afterLevel}
+use Rattle.rules.specs.Search.{Query, Box, Depths, Checked, answered, through, keep, near, full, corner, firstSurvivor, check, afterLevel}
 use Rattle.kernel.specs.declared.Pair.{Pair}
 use Rattle.kernel.specs.Kernel.{asked}
 use Rattle.kernel.specs.Ranges.{Ranged, Shallow, InGrid}
 use Rattle.boxes.specs.Boxes.{boxOf}
 use Rattle.queue.specs.All.{All}
 use Rattle.queue.specs.Level.{OfLevel}
-use Rattle.search.specs.declared.Seen.{Seen}
-use Rattle.search.specs.declared.Seen.the-variants.{Ends as EndsAt, Lost, Survives}
+use Rattle.search.specs.declared.First.{First}
+use Rattle.search.specs.declared.First.the-variants.{Ends as EndsAt, Recorded}
 use Rattle.search.specs.declared.Level.{Level}
 use Rattle.search.specs.declared.Step.{Step}
 use Rattle.search.specs.declared.Step.the-variants.{Ends, Goes}
@@ -41,32 +40,25 @@ pub record OneBox (p : Pair) (k : Depths) (box : Box) : Type 0 where
   pub shallow : Shallow (p .deepest) k
   pub grid : InGrid k box
 
--- the rest of a level's check after a box; `on` goes on with the boxes after it
-abbrev pub afterBox : Box → Bool → Corner → Seen → (Bool → Corner → Checked) → Checked
-afterBox box seen c (EndsAt a) on = answered a
-afterBox box seen c Lost on = on seen c
-afterBox box seen c (Survives d) on = keep box (on true d)
+-- the rest of a level's check after its first survivor; `on` goes on with the boxes after it
+abbrev pub afterFirst : Box → First → (Corner → Checked) → Checked
+afterFirst box (EndsAt a) on = answered a
+afterFirst box (Recorded c) on = keep box (on c)
 
 -- where a first survivor goes on, the depths are not full
-abbrev pub NotFull : Query → Depths → Seen → Type 0
+abbrev pub NotFull : Query → Depths → First → Type 0
 NotFull q k (EndsAt a) = Answers a
-NotFull q k Lost = Unit
-NotFull q k (Survives d) = full q k ≡ false
+NotFull q k (Recorded c) = full q k ≡ false
 
-pub record FirstIs (q : Query) (k : Depths) (box : Box) (n : ℕ) (r : Seen) : Type 0 where
-  pub says : (c : Corner) (on : Bool → Corner → Checked) → keep box (firstSurvivor (near q k box) (full q k) (corner q k box) n (on true)) ≡ afterBox box false c r on
+pub record FirstIs (q : Query) (k : Depths) (box : Box) (n : ℕ) (r : First) : Type 0 where
+  pub says : (on : Corner → Checked) → keep box (firstSurvivor (near q k box) (full q k) (corner q k box) n on) ≡ afterFirst box r on
   pub not-full : NotFull q k r
 
--- a search that goes on was within its budget
-abbrev pub Within : Query → ℕ → Seen → Type 0
-Within q n (EndsAt a) = Answers a
-Within q n Lost = n < q .budget
-Within q n (Survives d) = n < q .budget
-
-pub record BoxIs (q : Query) (k : Depths) (box : Box) (seen : Bool) (c : Corner) (n : ℕ) (r : Seen) : Type 0 where
-  pub says : (on : Bool → Corner → Checked) → oneBox q k box (eqb n (q .budget)) (survives q k box) seen c n on ≡ afterBox box seen c r on
-  pub not-full : seen ≡ false → NotFull q k r
-  pub within : Within q n r
+-- of n boxes the first r, and all of them unless the budget ends behind these
+pub record Affords (budget count n r : ℕ) : Type 0 where
+  pub some : r ≤ n
+  pub within : count + r ≤ budget
+  pub all : r < n → count + r ≡ budget
 
 -- ---- one level
 

@@ -9,7 +9,7 @@ ghost use Rattle.rules.specs.Search.{deeper, run, search};
 ghost use Rattle.kernel.specs.Kernel.{asked};
 ghost use Rattle.kernel.specs.Ranges.{Shallow};
 ghost use Rattle.gap.specs.Slab.{slabOf};
-ghost use Rattle.search.specs.Levels.{Answers, OneBox, Opens, FirstIs, BoxIs, Fine, Tidy, CheckIs, Splitting, SplitIs, StepIs, Zeroed, Accepted, Clean};
+ghost use Rattle.search.specs.Levels.{Answers, OneBox, Opens, FirstIs, Affords, Fine, Tidy, CheckIs, Splitting, SplitIs, StepIs, Zeroed, Accepted, Clean};
 use boxes::unpack;
 use gap::slab::Slab;
 use gap::slab::renewed;
@@ -27,11 +27,10 @@ use rules::Parameter;
 use rules::Record;
 use rules::Three;
 
-// What checking one box comes to: the end of the search, a lost box, or a survivor and the corner recorded after it.
-pub enum Seen {
+// What a level's first survivor comes to: the end of the search, or its corner is recorded.
+pub enum First {
     Ends(Answer),
-    Lost,
-    Survives(Corner),
+    Recorded(Corner),
 }
 
 // A level: its boxes are the first words of the queue; `used` is the largest size so far.
@@ -56,13 +55,13 @@ fn is_full(deepest: u64, k: Three) -> bool
 }
 
 // A level's first survivor: MET, or FLOOR, or its corner is recorded.
-fn first_survivor(p: Pair, k: Three, b: Three, count: u32) -> Seen
+fn first_survivor(p: Pair, k: Three, b: Three, count: u32) -> First
     requires { ⌜ OneBox p k b ⌝ }
     ensures { λ r. ⌜ FirstIs (asked p) k b count r ⌝ }
 {
     let c = gap::corner(p, k, b);
     if gap::near(p, k, b, c.excess) {
-        return Seen::Ends(Answer::Met {
+        return First::Ends(Answer::Met {
             t: c.t,
             u: c.u,
             v: c.v,
@@ -71,7 +70,7 @@ fn first_survivor(p: Pair, k: Three, b: Three, count: u32) -> Seen
         });
     }
     if is_full(p.deepest, k) {
-        return Seen::Ends(Answer::Floor {
+        return First::Ends(Answer::Floor {
             t: c.t,
             u: c.u,
             v: c.v,
@@ -79,30 +78,7 @@ fn first_survivor(p: Pair, k: Three, b: Three, count: u32) -> Seen
             count,
         });
     }
-    Seen::Survives(c)
-}
-
-// One box, before which the budget is asked; `slab` is that of its t index; `seen`: the level has had a survivor.
-fn check_box(p: Pair, k: Three, slab: Slab, b: Three, seen: bool, c: Corner, count: u32) -> Seen
-    requires { ⌜ OneBox p k b × ((count ≤ p .budget) × (slab ≡ slabOf p k (b .t))) ⌝ }
-    ensures { λ r. ⌜ BoxIs (asked p) k b seen c count r ⌝ }
-{
-    if count == p.budget {
-        return Seen::Ends(Answer::Spent {
-            t: c.t,
-            u: c.u,
-            v: c.v,
-            excess: c.excess,
-            count,
-        });
-    }
-    if !survives_in(p, k, slab, b) {
-        return Seen::Lost;
-    }
-    if seen {
-        return Seen::Survives(c);
-    }
-    first_survivor(p, k, b, count + 1)
+    First::Recorded(c)
 }
 
 // What the boxes of a level's first t index share.
@@ -117,39 +93,57 @@ fn first_slab(p: Pair, k: Three, queue: &[u64], n: usize) -> Slab
     slab_at(p, k, b.t)
 }
 
+// As many boxes of a level as the budget lets be checked.
+fn within_budget(budget: u32, count: u32, n: usize) -> usize
+    requires { ⌜ count ≤ budget ⌝ }
+    ensures { λ r. ⌜ Affords budget count n r ⌝ }
+{
+    let rest = (budget - count) as usize;
+    if n <= rest { n } else { rest }
+}
+
 // Checks a level's boxes in order, and keeps the survivors at the front.
 fn check_level(p: Pair, queue: &mut [u64], l: Level) -> Step
     requires { ⌜ Fine p (now queue) l ⌝ }
     ensures { λ r. ⌜ CheckIs p l (now (queue .entry)) (now (queue .exit)) r ⌝ }
 {
     let k = l.depths;
-    let n = l.size;
+    let last = within_budget(p.budget, l.count, l.size);
     let mut corner = l.corner;
     let mut i = 0;
     let mut m = 0;
-    let mut slab = first_slab(p, k, queue, n);
-    while i < n {
+    let mut slab = first_slab(p, k, queue, l.size);
+    while i < last {
         let w = queue[i];
         let b = unpack(w);
         slab = renewed(p, k, b.t, slab);
-        // each box before it is counted: no count of its own, which would be one number more to keep
-        match check_box(p, k, slab, b, 0 < m, corner, l.count + i as u32) {
-            Seen::Ends(a) => return Step::Ends(a),
-            Seen::Lost => i += 1,
-            Seen::Survives(c) => {
-                corner = c;
-                queue[m] = w;
-                m += 1;
-                i += 1;
+        let alive = survives_in(p, k, slab, b);
+        // written in any case, which is faster than asking; a box that is lost is written over
+        queue[m] = w;
+        i += 1;
+        if alive & (m == 0) {
+            match first_survivor(p, k, b, l.count + i as u32) {
+                First::Ends(a) => return Step::Ends(a),
+                First::Recorded(c) => corner = c,
             }
         }
+        m = if alive { m + 1 } else { m };
+    }
+    if last < l.size {
+        return Step::Ends(Answer::Spent {
+            t: corner.t,
+            u: corner.u,
+            v: corner.v,
+            excess: corner.excess,
+            count: p.budget,
+        });
     }
     Step::Goes(Level {
         depths: k,
         size: m,
         used: l.used,
         corner,
-        count: l.count + i as u32,
+        count: l.count + l.size as u32,
     })
 }
 
