@@ -2,7 +2,6 @@
 -- alone: so demand 3 is a theorem of the functions that are shipped. That of `taperhive_why` is `told-kept` in reasons/specs/Laws.antt.
 use Prim.Native.Nat.{ℕ, zero, suc, _+_}
 use mathlib.Core.Path.{_≡_, refl, ap, _∙_}
-use mathlib.Core.Bool.{Bool}
 use mathlib.Core.List.{List}
 use lib.ListN.{length, take, drop}
 use Rattle.rules.specs.declared.Record.{Record}
@@ -16,9 +15,8 @@ use Rattle.answers.specs.Walk.{One, Every, tells, tellsFrom}
 use Rattle.bodies.specs.Telling.{Tells, bodyTold}
 use Rattle.text.specs.declared.Written.the-variants.{Text}
 use Rattle.text.specs.Text.{rows, fileText}
-use Rattle.text.specs.Writers.{bufferIf}
-use Rattle.page.specs.Page.{sweepRefusal, sweepTold, pageUnless, sweepText, roomForPage, Paged}
-use Rattle.page.specs.Laws.{text-is}
+use Rattle.page.specs.Page.{sweepRefusal, sweepTold, pageUnless, sweepText, Paged}
+use Rattle.page.specs.Laws.{text-put}
 use Rattle.promise.specs.Promise.{Promised}
 use Rattle.promise.specs.Bodies.{BodiesPromised}
 use Rattle.promise.proofs.Demands.{demand-3}
@@ -60,11 +58,9 @@ bodies-kept w a b queue queue′ out out′ h = (h .told, demand-bodies w a b (l
 pub page-kept : (s out out′ : List ℕ) (n : ℕ) → Paged s out out′ (Text n) → sweepRefusal s ≡ 0
     → let text : List ℕ = fileText (rows (recordCount s) (sweepTold s)) in
     (out′ ≡ put out 0 text) × ((n ≡ length text) × EachKept (editionOf s) s 4096 (recordCount s) (placeOf s 0) (sweepTold s))
-unfolding sweepText pageUnless bufferIf
+unfolding sweepText pageUnless
 page-kept s out out′ n p e =
     let text : List ℕ = fileText (rows (recordCount s) (sweepTold s)) in
-    let h = text-is (roomForPage out) (sweepText s) (p .said) in
-    let same : sweepText s ≡ text = ap (λ (k : ℕ). pageUnless k text) e in (
-      p .bytes ∙ ap (λ (b : Bool). bufferIf b (sweepText s) out) (h .0) ∙ ap (λ (l : List ℕ). put out 0 l) same,
-      (h .1 ∙ ap length same, each-kept (editionOf s) s 4096 (recordCount s) (placeOf s 0)),
-    )
+    let h = text-put p refl in
+    let same : sweepText s ≡ text = ap (λ (k : ℕ). pageUnless k text) e in
+    (h .0 ∙ ap (λ (l : List ℕ). put out 0 l) same, (h .1 ∙ ap length same, each-kept (editionOf s) s 4096 (recordCount s) (placeOf s 0)))

@@ -1,19 +1,19 @@
 -- What is printed is the text of the input, by how it is refused or opens. Assumes nothing.
 use Prim.Native.Nat.{ℕ, zero, suc, _+_, _*_, _≤_, _<_}
 use mathlib.Core.Path.{_≡_, refl, sym, ap, _∙_}
-use mathlib.Core.Bool.{Bool, true, false}
-use mathlib.Core.List.{List, [], _∷_, _++_}
+use mathlib.Core.Bool.{Bool, true}
+use mathlib.Core.List.{List, _∷_, _++_}
 use native.Mathlib.Omega.{arith}
 use borrow.Author.Tests.{le-leb, lt-leb}
 use lib.ListN.{length, drop}
-use Rattle.rules.specs.QueryFile.{recordSize, editionOf, fileForm, openRefusal, recordAt, recordCount, placeOf, put}
+use Rattle.rules.specs.QueryFile.{recordSize, fileForm, openRefusal, recordAt, recordCount, put}
 use Rattle.answers.specs.Walk.{tells, tellsFrom}
 use Rattle.text.specs.declared.Row.{Row}
 use Rattle.text.specs.declared.Written.{Written}
 use Rattle.text.specs.declared.Written.the-variants.{Nothing}
 use Rattle.text.specs.Text.{rowOf, rows, fileText, refusedText}
 use Rattle.text.specs.Writers.{writtenIf, bufferIf, Printed, roomFor, roomForRefusal}
-use Rattle.page.specs.Page.{sweepRefusal, sweepTold, pageUnless, sweepText, roomForPage, Paged}
+use Rattle.page.specs.Page.{sweepRefusal, sweepTold, pageUnless, sweepText, roomForPage}
 use Rattle.page.specs.Laws.{long, short}
 
 -- what stands behind the numbers told is not printed

@@ -1,11 +1,12 @@
 -- What the definitions of the page promise.
---     fifteen-exactly   15 is given exactly when the input is over 65,536 bytes
---     text-fits         a text that is printed lies in the buffer
---     paged-once        no second answer and no second buffer fits what the page promises
+--     long, short           the refusal of an input, by its length
+--     fifteen-exactly       15 is given exactly when the input is over 65,536 bytes
+--     text-put, text-fits   a text that is printed stands from the first place on, and lies in the buffer
+--     paged-once            no second answer and no second buffer fits what the page promises
 -- Assumes nothing.
-use Prim.Native.Nat.{ℕ, zero, suc, _≤_, _<_}
+use Prim.Native.Nat.{ℕ, _≤_, _<_}
 use mathlib.Core.Path.{_≡_, refl, sym, ap, _∙_}
-use mathlib.Core.Bool.{Bool, true, false, not, cond, _||_}
+use mathlib.Core.Bool.{Bool, true, false, cond}
 use mathlib.Core.List.{List, [], _∷_}
 use native.Mathlib.Omega.{arith}
 use borrow.Author.Tests.{lt-ltb, le-ltb, ltb-true, ltb-false}
@@ -14,10 +15,10 @@ use lib.ListN.{length, length-append}
 use Rattle.rules.specs.Refusals.{Case, first}
 use Rattle.rules.specs.QueryFile.{fileForm, openCases, openRefusal, put}
 use Rattle.text.specs.declared.Written.{Written}
-use Rattle.text.specs.declared.Written.the-variants.{Text, Nothing}
+use Rattle.text.specs.declared.Written.the-variants.{Text}
 use Rattle.text.specs.Writers.{writtenIf, bufferIf, Printed}
 use Rattle.text.specs.Laws.{printed-once}
-use Rattle.page.specs.Page.{sweepRefusal, roomForPage, sweepText, Paged}
+use Rattle.page.specs.Page.{sweepRefusal, Paged}
 
 -- ---- the input's refusal
 pub long : (s : List ℕ) → 65536 < length s → sweepRefusal s ≡ 15
@@ -55,21 +56,20 @@ pub fifteen-exactly : (s : List ℕ) → (65536 < length s → sweepRefusal s �
 fifteen-exactly s = (long s, over s (ltb 65536 (length s)) refl)
 
 -- ---- what is printed
+text-if : (room : Bool) (text out out′ : List ℕ) {n : ℕ} → Text n ≡ writtenIf room text → out′ ≡ bufferIf room text out → (out′ ≡ put out 0 text) × (n ≡ length text)
+unfolding writtenIf bufferIf
+text-if true text out out′ e bytes = (bytes, cc)
+text-if false text out out′ e bytes = let z : _≡_ {A = ℕ} 0 1 = cc in absurd (omega arith)
+
+pub text-put : {room : Bool} {text out out′ : List ℕ} {w : Written} {n : ℕ} → Printed room text out out′ w → w ≡ Text n → (out′ ≡ put out 0 text) × (n ≡ length text)
+text-put {room} {text} {out} {out′} p e = text-if room text out out′ (sym e ∙ p .said) (p .bytes)
+
 fits-put : (out text : List ℕ) → length text ≤ length (put out 0 text)
 unfolding put
 fits-put out text = simp length-append (omega arith)
 
-pub text-is : (room : Bool) (text : List ℕ) {n : ℕ} → Text n ≡ writtenIf room text → (room ≡ true) × (n ≡ length text)
-unfolding writtenIf
-text-is true text e = (refl, cc)
-text-is false text e = let z : _≡_ {A = ℕ} 0 1 = cc in absurd (omega arith)
-
 pub text-fits : {room : Bool} {text out out′ : List ℕ} {w : Written} {n : ℕ} → Printed room text out out′ w → w ≡ Text n → length out′ ≡ length out → n ≤ length out
-unfolding bufferIf
-text-fits {room} {text} {out} {out′} {w} {n} p e kept =
-    let h = text-is room text (sym e ∙ p .said) in
-    let bytes : out′ ≡ put out 0 text = p .bytes ∙ ap (λ (b : Bool). bufferIf b text out) (h .0) in
-    omega (arith, fits-put out text, ap length bytes, kept, h .1)
+text-fits {text = text} {out = out} p e kept = let h = text-put p e in omega (arith, fits-put out text, ap length (h .0), kept, h .1)
 
 pub paged-once : (file : List ℕ) {out out′ out″ : List ℕ} {r r′ : Written} → Paged file out out′ r → Paged file out out″ r′ → (r ≡ r′) × (out′ ≡ out″)
 paged-once file p q = printed-once p q

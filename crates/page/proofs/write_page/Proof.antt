@@ -1,10 +1,7 @@
 -- No room first, then 15, then what the file opens to. Assumes nothing.
-use mathlib.Core.Path.{_≡_, sym, ap, _∙_}
-use Prim.Native.Nat.{ℕ}
-use mathlib.Core.List.{List}
+use mathlib.Core.Path.{_≡_, sym, _∙_}
 use native.Mathlib.Omega.{arith}
-use lib.ListN.{length}
-use Rattle.rules.specs.QueryFile.{fileForm, openRefusal, recordCount}
+use Rattle.rules.specs.QueryFile.{fileForm, openRefusal}
 use Rattle.queries.specs.Opening.{Holds, records-end, few-records, opened-records, opened-refused}
 use Rattle.text.specs.Text.{rows, fileText}
 use Rattle.answers.proofs.Walking.{tells-place}

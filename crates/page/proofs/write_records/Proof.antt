@@ -1,10 +1,8 @@
 -- The lines are those of the numbers told, and the queue has 4,096 words. Assumes nothing.
-use mathlib.Core.Path.{_≡_, sym, ap, _∙_}
+use mathlib.Core.Path.{ap, _∙_}
 use Prim.Native.Nat.{ℕ}
 use mathlib.Core.List.{List}
 use native.Mathlib.Omega.{arith}
-use lib.ListN.{length}
-use Rattle.answers.specs.Walk.{tellsFrom}
 use Rattle.text.specs.Text.{rows, fileText}
 use Rattle.page.proofs.Paging.{rows-put, answers-room, printed-as}
 use borrow.Author.Needs.{needs}
