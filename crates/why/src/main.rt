@@ -13,14 +13,15 @@ use rules::Ruling;
 use rules::Three;
 
 // The line of an input, in a buffer that holds it.
-fn page(file: &[u8], n: usize, at: Three, queue: &mut [u64], out: &mut [u8]) -> usize
+fn page(file: &[u8], n: usize, at: Three, out: &mut [u8]) -> usize
     requires { ⌜ 331 ≤ length (now out) ⌝ }
-    ensures { λ r. ⌜ Wrote 331 (now (out .entry)) 0 (whyPage (now (file .entry)) n at (length (now (queue .entry)))) (now (out .exit)) r ⌝ }
+    ensures { λ r. ⌜ Wrote 331 (now (out .entry)) 0 (whyPage (now (file .entry)) n at 4096) (now (out .exit)) r ⌝ }
 {
     if 65536 < file.len() {
         return wording::write_ruling(out, Ruling::Refused(15));
     }
-    let a = reasons::rule(file, n, at, true, queue);
+    let mut queue = [0u64; 4096];
+    let a = reasons::rule(file, n, at, true, &mut queue);
     wording::write_ruling(out, a)
 }
 
@@ -43,12 +44,11 @@ fn argument(i: usize) -> Number {
 // Record n of the query file asked about a point.
 fn answer(n: usize, at: Three) {
     let mut file = [0u8; 65537];
-    let mut queue = [0u64; 4096];
     let mut out = [0u8; 331];
     let Input::Bytes(size) = read_input(5, &mut file, b"why: the query file cannot be read") else {
         return;
     };
-    let printed = page(&file[..size], n, at, &mut queue, &mut out);
+    let printed = page(&file[..size], n, at, &mut out);
     print(
         &out[..printed],
         b"why: the answer cannot be written to standard output",

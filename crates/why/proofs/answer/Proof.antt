@@ -45,9 +45,6 @@ slice-aggregate-page c =
 slice-aggregate-page-2 : tie.Need-slice-aggregate-page-2
 slice-aggregate-page-2 c = search needs
 
-slice-aggregate-page-3 : tie.Need-slice-aggregate-page-3
-slice-aggregate-page-3 c = search needs
-
 page-requires : tie.Need-page-requires
 page-requires c κs = search needs
 
@@ -56,8 +53,8 @@ array-share-prefix-out c = search needs
 
 slice-aggregate-print : tie.Need-slice-aggregate-print
 slice-aggregate-print c =
-    let p = c .before .before .before .page in
-    sym (length-take-le (p .result) (p .last .1 .1 .1 .1 .0) (omega (arith, p .ensures .few, p .kept .1 .1 .1 .1 .0)))
+    let p = c .before .before .page in
+    sym (length-take-le (p .result) (p .last .1 .1 .1 .0) (omega (arith, p .ensures .few, p .kept .1 .1 .1 .0)))
 
 slice-aggregate-print-2 : tie.Need-slice-aggregate-print-2
 slice-aggregate-print-2 c = search needs
@@ -81,7 +78,6 @@ answer-spec =
     array-share-prefix-file
     slice-aggregate-page
     slice-aggregate-page-2
-    slice-aggregate-page-3
     page-requires
     array-share-prefix-out
     slice-aggregate-print
