@@ -1,9 +1,12 @@
-// What a program does with its arguments and its input: a number read from text, and a file's bytes.
+// What a program does with its arguments, its input and its output.
 ghost use mathlib.Core.Path.{_≡_};
 ghost use Prim.Native.Nat.{_≤_};
 ghost use lib.ListN.{length};
 ghost use Rattle.console.specs.Number.{andDigit, isDigit, numberOf};
 ghost use Rattle.console.specs.Input.{Within};
+use libc::STDERR_FILENO;
+use libc::STDIN_FILENO;
+use libc::STDOUT_FILENO;
 
 // What a text says.
 pub enum Number {
@@ -55,18 +58,75 @@ pub enum Input {
     Failed,
 }
 
-// A file from where it stands to its end, or to the buffer's.
-pub fn read_file(fd: i32, buffer: &mut [u8]) -> Input
-    ensures { λ r. ⌜ Within r (length (now (buffer .exit))) ⌝ }
+// One read: how many bytes came, 0 at the input's end.
+fn read_part(fd: i32, part: &mut [u8]) -> Input
+    ensures { λ r. ⌜ Within r (length (now (part .exit))) ⌝ }
 {
-    let got = libc::read(fd, buffer);
+    let got = libc::read(fd, part);
     if got < 0 {
         return Input::Failed;
     }
-    let n = io::count(got, buffer);
-    if n == 0 {
-        return Input::Bytes(0);
+    Input::Bytes(io::count(got, part))
+}
+
+// A file from where it stands to its end, or to the buffer's. A read that fails is no end: it is said on standard error.
+fn read_file(fd: i32, buffer: &mut [u8], failure: &[u8]) -> Input
+    ensures { λ r. ⌜ Within r (length (now (buffer .exit))) ⌝ }
+{
+    let mut n = 0;
+    while n < buffer.len() {
+        let Input::Bytes(more) = read_part(fd, &mut buffer[n..]) else {
+            os::fail(failure);
+            return Input::Failed;
+        };
+        if more == 0 {
+            break;
+        }
+        n += more;
     }
-    let more = io::read_full(fd, &mut buffer[n..]);
-    Input::Bytes(n + more)
+    Input::Bytes(n)
+}
+
+// The file that argument i names.
+fn read_named(i: usize, buffer: &mut [u8], failure: &[u8]) -> Input
+    ensures { λ r. ⌜ Within r (length (now (buffer .exit))) ⌝ }
+{
+    let mut path = io::buffer();
+    let size = os::arg(i, &mut path);
+    if os::errno() != 0 {
+        os::fail(failure);
+        return Input::Failed;
+    }
+    let fd = os::open_read(&path[..size]);
+    if fd < 0 {
+        os::fail(failure);
+        return Input::Failed;
+    }
+    let input = read_file(fd, buffer, failure);
+    libc::close(fd);
+    input
+}
+
+// The file that argument i names, or standard input where there is no such argument. Where it cannot be read,
+// this failure and the system's reason are said on standard error.
+pub fn read_input(i: usize, buffer: &mut [u8], failure: &[u8]) -> Input
+    ensures { λ r. ⌜ Within r (length (now (buffer .exit))) ⌝ }
+{
+    if os::arg_count() <= i {
+        read_file(STDIN_FILENO, buffer, failure)
+    } else {
+        read_named(i, buffer, failure)
+    }
+}
+
+// A text on standard output. Where it cannot be written whole, this failure and the system's reason are said on standard error.
+pub fn print(text: &[u8], failure: &[u8]) {
+    if !io::write_all(STDOUT_FILENO, text) {
+        os::fail(failure);
+    }
+}
+
+// A sentence on standard error.
+pub fn say(sentence: &[u8]) {
+    io::write_all(STDERR_FILENO, sentence);
 }

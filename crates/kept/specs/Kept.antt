@@ -1,7 +1,7 @@
--- What `taperhive_answer`, `taperhive_answers` and `taperhive_bodies` tell keeps the promises (promise/specs), by their own contracts alone: so demand 3 is
--- a theorem of the functions that are shipped. That of `taperhive_why` is `told-kept` in reasons/specs/Laws.antt.
+-- What `taperhive_answer`, `taperhive_answers` and `taperhive_bodies` tell and what `sweep` prints keeps the promises (promise/specs), by their own contracts
+-- alone: so demand 3 is a theorem of the functions that are shipped. That of `taperhive_why` is `told-kept` in reasons/specs/Laws.antt.
 use Prim.Native.Nat.{ℕ, zero, suc, _+_}
-use mathlib.Core.Path.{_≡_, refl}
+use mathlib.Core.Path.{_≡_, refl, ap, _∙_}
 use mathlib.Core.List.{List}
 use lib.ListN.{length, take, drop}
 use Rattle.rules.specs.declared.Record.{Record}
@@ -13,6 +13,10 @@ use Rattle.rules.specs.QueryFile.{recordSize, recordAt, recordCount, editionOf,
 use Rattle.answers.specs.Eight.{eight}
 use Rattle.answers.specs.Walk.{One, Every, tells, tellsFrom}
 use Rattle.bodies.specs.Telling.{Tells, bodyTold}
+use Rattle.text.specs.declared.Written.the-variants.{Text}
+use Rattle.text.specs.Text.{rows, fileText}
+use Rattle.page.specs.Page.{sweepRefusal, sweepTold, pageUnless, sweepText, Paged}
+use Rattle.page.specs.Laws.{text-put}
 use Rattle.promise.specs.Promise.{Promised}
 use Rattle.promise.specs.Bodies.{BodiesPromised}
 use Rattle.promise.proofs.Demands.{demand-3}
@@ -49,3 +53,14 @@ pub bodies-kept : (w : Terms) (a b : Body) (queue queue′ out out′ : List ℕ
     → (out′ ≡ put out 0 (bodyTold (bodySearch w a b (length queue)))) × BodiesPromised w a b (length queue) (bodySearch w a b (length queue))
 unfolding putUnless
 bodies-kept w a b queue queue′ out out′ h = (h .told, demand-bodies w a b (length queue))
+
+-- `page::write_page`, where it writes a text and the file is not refused: the lines of answers that each keep demand 3
+pub page-kept : (s out out′ : List ℕ) (n : ℕ) → Paged s out out′ (Text n) → sweepRefusal s ≡ 0
+    → let text : List ℕ = fileText (rows (recordCount s) (sweepTold s)) in
+    (out′ ≡ put out 0 text) × ((n ≡ length text) × EachKept (editionOf s) s 4096 (recordCount s) (placeOf s 0) (sweepTold s))
+unfolding sweepText pageUnless
+page-kept s out out′ n p e =
+    let text : List ℕ = fileText (rows (recordCount s) (sweepTold s)) in
+    let h = text-put p refl in
+    let same : sweepText s ≡ text = ap (λ (k : ℕ). pageUnless k text) e in
+    (h .0 ∙ ap (λ (l : List ℕ). put out 0 l) same, (h .1 ∙ ap length same, each-kept (editionOf s) s 4096 (recordCount s) (placeOf s 0)))

@@ -1,49 +1,69 @@
-// sweep: a query file on standard input, its answers on standard output.
-ghost use mathlib.Core.Path.{_≡_};
-ghost use Prim.Native.Nat.{_≤_};
-ghost use lib.ListN.{length};
-ghost use Rattle.sweep.specs.Page.{Paged, sizeOf};
-use rules::Opened;
+// sweep [FILE]: a query file, or standard input, and its answers as lines on standard output.
+use check::same;
+use console::Input;
+use console::print;
+use console::read_input;
+use console::say;
+use help::help;
 use text::Written;
 
-// How many bytes a text has.
-fn size(text: Written) -> usize
-    ensures { λ r. ⌜ r ≡ sizeOf text ⌝ }
-{
-    match text {
-        Written::Text(n) => n,
-        Written::Nothing => 0,
-    }
+mod help; // help.rt: what --help prints
+
+fn usage() {
+    say(
+        b"sweep: write sweep [FILE], sweep --help or sweep --version. Without FILE the query file is read from standard input.\n",
+    );
 }
 
-// The text of a file's answers, or of its refusal, in a buffer that holds it.
-fn page(file: &[u8], queue: &mut [u64], told: &mut [u32], out: &mut [u8]) -> usize
-    requires { ⌜ (4512 ≤ length (now told)) × (45280 ≤ length (now out)) ⌝ }
-    ensures { λ r. ⌜ Paged (now (file .entry)) (now (queue .entry)) (now (out .entry)) (now (out .exit)) r ⌝ }
-{
-    if 65536 < file.len() {
-        return size(text::write_refused(15, out));
+fn version() {
+    print(
+        b"sweep 0.3.0\n",
+        b"sweep: the version cannot be written to standard output",
+    );
+}
+
+// The answers of the query file.
+fn answer() {
+    let mut file = [0u8; 65537];
+    let mut out = [0u8; 45280];
+    let Input::Bytes(size) = read_input(1, &mut file, b"sweep: the query file cannot be read")
+    else {
+        return;
+    };
+    let Written::Text(printed) = page::write_page(&file[..size], &mut out) else {
+        return say(b"sweep: no room for the answers\n"); // never: 45,280 bytes hold them
+    };
+    print(
+        &out[..printed],
+        b"sweep: the answers cannot be written to standard output",
+    );
+}
+
+// Whether an argument begins as an option does.
+fn is_option(argument: &[u8]) -> bool {
+    if argument.len() == 0 {
+        return false;
     }
-    let o = queries::open_file(file);
-    match o {
-        Opened::Refused(number) => size(text::write_refused(number, out)),
-        Opened::Records {
-            edition,
-            first,
-            count,
-        } => {
-            answers::answer_records(file, edition, first, count, queue, told);
-            size(text::write_answers(told, count as u32, out))
-        }
-    }
+    argument[0] == b'-'
 }
 
 fn main() {
-    let mut file = [0u8; 65537];
-    let mut queue = [0u64; 4096];
-    let mut told = [0u32; 4512];
-    let mut out = [0u8; 45280];
-    let n = io::read_full(0, &mut file);
-    let printed = page(&file[..n], &mut queue, &mut told, &mut out);
-    io::write_all(1, &out[..printed]);
+    let count = os::arg_count();
+    if count < 2 {
+        return answer();
+    }
+    if 2 < count {
+        return usage();
+    }
+    let mut text = io::buffer();
+    let n = os::arg(1, &mut text);
+    if same(&text[..n], b"--help") {
+        help();
+    } else if same(&text[..n], b"--version") {
+        version();
+    } else if is_option(&text[..n]) {
+        usage();
+    } else {
+        answer();
+    }
 }

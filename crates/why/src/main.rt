@@ -5,27 +5,24 @@ ghost use Rattle.text.specs.Writers.{Wrote};
 ghost use Rattle.why.specs.Page.{whyPage};
 use console::Input;
 use console::Number;
+use console::print;
+use console::read_input;
 use console::read_number;
-use libc::STDERR_FILENO;
-use libc::STDIN_FILENO;
-use libc::STDOUT_FILENO;
+use console::say;
 use rules::Ruling;
 use rules::Three;
 
 // The line of an input, in a buffer that holds it.
-fn page(file: &[u8], n: usize, at: Three, queue: &mut [u64], out: &mut [u8]) -> usize
+fn page(file: &[u8], n: usize, at: Three, out: &mut [u8]) -> usize
     requires { ⌜ 331 ≤ length (now out) ⌝ }
-    ensures { λ r. ⌜ Wrote 331 (now (out .entry)) 0 (whyPage (now (file .entry)) n at (length (now (queue .entry)))) (now (out .exit)) r ⌝ }
+    ensures { λ r. ⌜ Wrote 331 (now (out .entry)) 0 (whyPage (now (file .entry)) n at 4096) (now (out .exit)) r ⌝ }
 {
     if 65536 < file.len() {
         return wording::write_ruling(out, Ruling::Refused(15));
     }
-    let a = reasons::rule(file, n, at, true, queue);
+    let mut queue = [0u64; 4096];
+    let a = reasons::rule(file, n, at, true, &mut queue);
     wording::write_ruling(out, a)
-}
-
-fn say(sentence: &[u8]) {
-    io::write_all(STDERR_FILENO, sentence);
 }
 
 fn usage() {
@@ -44,32 +41,18 @@ fn argument(i: usize) -> Number {
     read_number(&text[..n])
 }
 
-// Record n of the file that is open, asked about a point.
-fn answer(fd: i32, n: usize, at: Three) {
+// Record n of the query file asked about a point.
+fn answer(n: usize, at: Three) {
     let mut file = [0u8; 65537];
-    let mut queue = [0u64; 4096];
     let mut out = [0u8; 331];
-    let Input::Bytes(size) = console::read_file(fd, &mut file) else {
-        os::fail(b"why: the query file cannot be read");
-        return usage();
+    let Input::Bytes(size) = read_input(5, &mut file, b"why: the query file cannot be read") else {
+        return;
     };
-    let printed = page(&file[..size], n, at, &mut queue, &mut out);
-    if !io::write_all(STDOUT_FILENO, &out[..printed]) {
-        say(b"why: the answer cannot be written to standard output\n");
-    }
-}
-
-// The same of the file that argument 5 names.
-fn answer_named(n: usize, at: Three) {
-    let mut path = io::buffer();
-    let size = os::arg(5, &mut path);
-    let fd = os::open_read(&path[..size]);
-    if fd < 0 {
-        os::fail(&path[..size]);
-        return usage();
-    }
-    answer(fd, n, at);
-    libc::close(fd);
+    let printed = page(&file[..size], n, at, &mut out);
+    print(
+        &out[..printed],
+        b"why: the answer cannot be written to standard output",
+    );
 }
 
 fn main() {
@@ -91,10 +74,8 @@ fn main() {
         u: u as u64,
         v: v as u64,
     };
-    if count == 5 {
-        answer(STDIN_FILENO, n as usize, at);
-    } else if count == 6 {
-        answer_named(n as usize, at);
+    if count <= 6 {
+        answer(n as usize, at);
     } else {
         usage();
     }

@@ -5,7 +5,6 @@ use mathlib.Core.Path.{_≡_, sym}
 use mathlib.Core.Bool.{true}
 use mathlib.Core.List.{List}
 use Prim.Native.Nat.{ℕ}
-use lib.ListN.{length}
 use Rattle.rules.specs.declared.Three.{Three}
 use Rattle.rules.specs.declared.Ruling.{Ruling}
 use Rattle.rules.specs.declared.Ruling.the-variants.{Discarded, Refused}
@@ -30,26 +29,26 @@ returns : tie.Need-returns
 unfolding pageRuling
 returns c = let w = c .before .before in rw (lt-ltb 65536 _ (w .before .before .if1 .taken)) (w .write-ruling .ensures)
 
+slice-aggregate-rule : tie.Need-slice-aggregate-rule
+slice-aggregate-rule c = search needs
+
 rule-requires : tie.Need-rule-requires
 rule-requires c κs = search needs
 
 write-ruling-requires-2 : tie.Need-write-ruling-requires-2
 write-ruling-requires-2 c κs =
-    let w = c .before .before .before in
-    let s = w .before .before .before .before .before .before in
-    (s .pre, drawn (s .args .file .now) (s .args .n) (s .args .at) (length (s .args .queue .now)) _ (w .rule .ensures .says))
+    let w = c .before .before in
+    let s = w .before .before .before .before .before in
+    (s .pre, drawn (s .args .file .now) (s .args .n) (s .args .at) 4096 _ (w .rule .ensures .says))
 
 same-length-2 : tie.Need-same-length-2
 same-length-2 c = search needs
-
-same-length-3 : tie.Need-same-length-3
-same-length-3 c = search needs
 
 returns-2 : tie.Need-returns-2
 unfolding pageRuling
 returns-2 c =
     let w = c .before .before in
-    let r = w .before .before .before .before in
+    let r = w .before .before .before in
     rw (le-ltb 65536 _ (r .before .before .if1 .left), ← r .rule .ensures .says) (w .write-ruling2 .ensures)
 
 pub page-spec : {M : Type 1} → statement M
@@ -59,8 +58,8 @@ page-spec =
     write-ruling-requires
     same-length
     returns
+    slice-aggregate-rule
     rule-requires
     write-ruling-requires-2
     same-length-2
-    same-length-3
     returns-2)

@@ -1,2 +1,3 @@
 -- What `sweep` prints of its input.
 pub mod Page
+pub mod Laws

@@ -1,0 +1,2 @@
+-- What the proofs of `page` cite.
+pub mod Paging

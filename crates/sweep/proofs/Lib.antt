@@ -1,2 +1,0 @@
--- What the proofs of `sweep` cite.
-pub mod Paging
