@@ -8,6 +8,7 @@ use super::tally::Tally;
 use super::{Case, LONG};
 use crate::bodies::Bodies;
 use crate::edition::Edition;
+use crate::record::Record;
 use crate::rng::Rng;
 use crate::why::Parts;
 
@@ -35,6 +36,45 @@ pub type Count = unsafe extern "C" fn(*const u8, usize, *mut u32, usize) -> u32;
 pub type Copied = unsafe extern "C" fn(*const u8, usize, usize, u8, *mut u8, usize, usize) -> u32;
 /// Buffer, place, edition, count.
 pub type Trailer = unsafe extern "C" fn(*mut u8, usize, usize, u8, u32) -> u32;
+
+/// Buffer, place, edition; kind, flags, id, separations, tolerance, budget, cap; points.
+pub type Write = unsafe extern "C" fn(
+    *mut u8,
+    usize,
+    usize,
+    u8,
+    u8,
+    u8,
+    u32,
+    u32,
+    u32,
+    u32,
+    u32,
+    u32,
+    u32,
+    *const i32,
+    usize,
+) -> u32;
+
+/// Edition; kind, flags, id, separations, tolerance, budget, cap; points; queue; told.
+pub type Pair = unsafe extern "C" fn(
+    u8,
+    u8,
+    u8,
+    u32,
+    u32,
+    u32,
+    u32,
+    u32,
+    u32,
+    u32,
+    *const i32,
+    usize,
+    *mut u64,
+    usize,
+    *mut u32,
+    usize,
+) -> u32;
 
 /// Edition; separations, tolerance, budget; A's count, start, end; B's; queue; told.
 pub type TwoBodies = unsafe extern "C" fn(
@@ -68,6 +108,8 @@ pub struct Library {
     pub count: Count,
     pub copy: Copied,
     pub trailer: Trailer,
+    pub write: Write,
+    pub pair: Pair,
     pub bodies: TwoBodies,
     pub why: Why,
 }
@@ -121,6 +163,42 @@ impl Library {
     pub fn trailer(&self, out: &mut [u8], at: usize, edition: u8, count: u32) -> u32 {
         // Sound: as above.
         unsafe { (self.trailer)(out.as_mut_ptr(), out.len(), at, edition, count) }
+    }
+
+    pub fn write(&self, out: &mut [u8], at: usize, edition: u8, r: &Record, points: &[i32]) -> u32 {
+        let (lent, out, [x, y, z]) = (out.len(), out.as_mut_ptr(), r.separations);
+        let (kind, flags, id) = (r.kind, r.flags, r.id);
+        let (tolerance, budget, cap) = (r.tolerance, r.budget, r.spare);
+        let (from, numbers) = (points.as_ptr(), points.len());
+        // Sound: as above.
+        unsafe {
+            (self.write)(
+                out, lent, at, edition, kind, flags, id, x, y, z, tolerance, budget, cap, from,
+                numbers,
+            )
+        }
+    }
+
+    pub fn pair(
+        &self,
+        edition: u8,
+        r: &Record,
+        points: &[i32],
+        queue: &mut [u64],
+        told: &mut [u32],
+    ) -> u32 {
+        let (kind, flags, id, [x, y, z]) = (r.kind, r.flags, r.id, r.separations);
+        let (tolerance, budget, cap) = (r.tolerance, r.budget, r.spare);
+        let (from, numbers) = (points.as_ptr(), points.len());
+        let (words, lent) = (queue.len(), told.len());
+        // Sound: as above.
+        unsafe {
+            let (queue, told) = (queue.as_mut_ptr(), told.as_mut_ptr());
+            (self.pair)(
+                edition, kind, flags, id, x, y, z, tolerance, budget, cap, from, numbers, queue,
+                words, told, lent,
+            )
+        }
     }
 
     pub fn bodies(&self, bodies: &Bodies, queue: &mut [u64], told: &mut [u32]) -> u32 {
