@@ -1,11 +1,11 @@
 /* Every function of taperhive.h, called by the names of its parameters: what it returns and what it
- * leaves is printed, and compared with every-function.stdout. No two parameters that could stand in
+ * leaves is printed, and compared with the file stdout beside this one. No two parameters that could stand in
  * each other's place have one value, and exchanging them prints something else.
  *
  * tools/every-function makes by-name.h out of the header. CALL(f) hands over the local variables that
  * are named as f's parameters are, in the header's order: so a name in another's place is seen, also
- * where both have one type. Buffers are far longer than what is lent of them, so that a length in
- * another's place does no harm. */
+ * where both have one type. Buffers are far longer than what is lent of them, so that most lengths in
+ * another's place do no harm. */
 #include <stdio.h>
 #include <string.h>
 #include "taperhive.h"
@@ -24,8 +24,10 @@ static const int32_t edges[LONG] = {-100, 5,   1000, 110, -7, 900, 3,  -100, 20,
 /* A triangle of A and two of B, at the start and at the end of the step. */
 static const int32_t a0[LONG] = {0, 0, 900, 300, 10, 700, 20, 280, 800};
 static const int32_t a1[LONG] = {50, 20, -300, 340, 60, -500, 10, 330, -450};
-static const int32_t b0[LONG] = {-100, -90, 3, 290, -80, -5, -70, 310, 9, 900, 0, 0, 999, 7, 0, 900, 99, 4};
-static const int32_t b1[LONG] = {-90, -70, 50, 310, -60, 30, -60, 300, 40, 800, 5, 0, 890, 9, 8, 820, 90, 0};
+static const int32_t b0[LONG] = {-100, -90, 3, 290, -80, -5, -70, 310, 9,
+                                 900,  0,   0, 999, 7,   0,  900, 99,  4};
+static const int32_t b1[LONG] = {-90, -70, 50, 310, -60, 30, -60, 300, 40,
+                                 800, 5,   0,  890, 9,   8,  820, 90,  0};
 
 static void paint(void)
 {
@@ -152,7 +154,7 @@ static void ruled_out(void)
     uint64_t *queue = words;
     uint32_t *told = numbers;
     size_t file_len = FILE_BYTES, n = 1, queue_len = 64, told_len = 9;
-    uint32_t t = 507903, u = 300002, v = 200001;
+    uint32_t t = 507903, u = 700001, v = 400003;
     paint();
     print_outcome("taperhive_why", CALL(taperhive_why), 9);
 }
@@ -173,11 +175,15 @@ static void walked(void)
 /* With length 0 a pointer may be NULL: each function once with nothing lent. */
 static void nothing_lent(void)
 {
-    printf("nothing lent: %u %u %u %u %u %u %u %u %u\n", taperhive_write(0, 0, 0, 2, 1, 0, 0, 0, 0, 0, 16, 1, 0, 0, 0),
-           taperhive_trailer(0, 0, 0, 2, 0), taperhive_copy(0, 0, 0, 2, 0, 0, 0), taperhive_count(0, 0, 0, 0),
-           taperhive_answer(0, 0, 0, 0, 0, 0, 0), taperhive_answers(0, 0, 0, 0, 0, 0),
-           taperhive_pair(2, 1, 0, 0, 0, 0, 0, 16, 1, 0, 0, 0, 0, 0, 0, 0), taperhive_why(0, 0, 0, 0, 0, 0, 0, 0, 0, 0),
-           taperhive_bodies(2, 0, 0, 0, 16, 1, 0, 0, 0, 0, 0, 0, 0, 0, 0, 0, 0, 0, 0, 0));
+    printf("nothing lent: %u", taperhive_write(0, 0, 0, 2, 1, 0, 0, 0, 0, 0, 16, 1, 0, 0, 0));
+    printf(" %u", taperhive_trailer(0, 0, 0, 2, 0));
+    printf(" %u", taperhive_copy(0, 0, 0, 2, 0, 0, 0));
+    printf(" %u", taperhive_count(0, 0, 0, 0));
+    printf(" %u", taperhive_answer(0, 0, 0, 0, 0, 0, 0));
+    printf(" %u", taperhive_answers(0, 0, 0, 0, 0, 0));
+    printf(" %u", taperhive_pair(2, 1, 0, 0, 0, 0, 0, 16, 1, 0, 0, 0, 0, 0, 0, 0));
+    printf(" %u", taperhive_why(0, 0, 0, 0, 0, 0, 0, 0, 0, 0));
+    printf(" %u\n", taperhive_bodies(2, 0, 0, 0, 16, 1, 0, 0, 0, 0, 0, 0, 0, 0, 0, 0, 0, 0, 0, 0));
     paint();
     printf("no queue: %u", taperhive_pair(2, 2, 0, 5, 1, 2, 3, 16, 9, 0, edges, 24, 0, 0, numbers, 8));
     printf(", refused %u\n", numbers[TAPERHIVE_NUMBER]);
