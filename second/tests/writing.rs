@@ -149,5 +149,5 @@ fn tally_counts_records_from_numbers() {
     for number in [1, 2, 3, 4, 5, 6, 10, 14] {
         assert!(text.contains(&format!(" {number}: ")), "{text}");
     }
-    assert!(text.contains(" records from numbers; "), "{text}");
+    assert!(text.contains(" pairs without a file; ") && !text.contains(", 0 pairs"), "{text}");
 }

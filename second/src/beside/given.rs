@@ -123,8 +123,8 @@ impl Given<'_> {
             (Lent::new(self.rng.draw(), words), Lent::new(self.rng.draw(), lent));
         let code = self.library.pair(edition, record, points.read(), queue.slice(), told.slice());
         self.tally.call(must.as_ref().err().copied());
-        if let (Ok(told), Ok(edition)) = (&must, Edition::of(edition)) {
-            self.tally.told(edition, told);
+        if let Ok(told) = &must {
+            self.tally.pair(told);
         }
         let numbers = points.read().len();
         let call = format!(
