@@ -1,8 +1,8 @@
 /* What a controller does each step: it asks every pair of a query file, and
  * scales its move by the smallest moment answered.
  *
- *   rt staticlib controller
- *   gcc -O2 -Iinclude examples/controller.c target/staticlib/libcontroller.a \
+ *   tools/library target/libtaperhive.a
+ *   gcc -O2 -Iinclude examples/controller.c target/libtaperhive.a \
  *       -o target/controller-example
  *   target/controller-example examples/berth.query
  *

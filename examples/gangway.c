@@ -1,8 +1,8 @@
 /* A whole gangway against a hull, in one call: a box of twelve triangles comes
  * down on a deck that heaves towards it.
  *
- *   rt staticlib controller
- *   gcc -O2 -Iinclude examples/gangway.c target/staticlib/libcontroller.a \
+ *   tools/library target/libtaperhive.a
+ *   gcc -O2 -Iinclude examples/gangway.c target/libtaperhive.a \
  *       -o target/gangway-example
  *   target/gangway-example
  *

@@ -1,4 +1,4 @@
-/* The numbers of an answer as a person reads them: for both examples. */
+/* The numbers of an answer as a person reads them: for the examples. */
 #ifndef READING_H
 #define READING_H
 

@@ -1,30 +1,60 @@
-/* Taperhive for a controller: the queries of a file, or of two bodies of triangles, searched and told in numbers; and why a pair was safe at a moment and place.
+/* Taperhive for a controller: pairs of a file, single pairs or two bodies of triangles, searched and
+ * told in numbers; why a pair was safe at a moment and place; and query files, written.
  *
- * Build: rt staticlib controller, then link target/staticlib/libcontroller.a (x86-64 Linux).
- * Every function may be called with any bytes, any numbers and any lengths; nothing is left for the caller to check first. A pointer must
- * reach as many elements as the length behind it says. A buffer that a call may write must overlap no other of that call; lists that are only read may be one
- * and the same, as the two of a body that stands still. No function allocates, keeps anything between calls, or fails in any other way than by the number that
- * it returns.
+ * Build: tools/install PREFIX, then cc `pkg-config --cflags --libs taperhive`. README.md says more.
  *
- * What is told of a record are eight numbers: id, word, t, u, v, excess, count, refusal number.
- *   word    0 refused, 1 MET, 2 CLEAR, 3 SPENT, 4 ROOM, 5 FLOOR
- *   t, u, v the recorded moment and place in 1/1,048,576 parts (0 for CLEAR and a refused record)
- *   excess  how far F is beyond the separation there, on the axis where that is most, in units of 1/8 mm, rounded up
- *   count   boxes checked
- *   refusal number   1 KIND, 2 FLAGS, 3 COORD, 4 SEPARATION, 5 TOLERANCE, 6 BUDGET, 7 QUEUE for a refused record, else 0
+ * Every function may be called with any bytes, any numbers and any lengths; nothing is left for the
+ * caller to check first. Each returns 0, or the number of a refusal, and fails in no other way.
+ *
+ * MEMORY
+ *   Lengths count elements, not bytes, and stand right behind their pointer. A pointer must reach as
+ *   many elements. With length 0 nothing is read or written there, and it may be NULL.
+ *   Pointers are aligned as C asks of their type; bytes stand anywhere.
+ *   A buffer that a call may write must overlap no other of that call: the proofs assume it. Lists
+ *   that are only read may be one and the same, as the two of a body that stands still.
+ *   No function allocates, opens a file or keeps anything between calls.
+ *   Stack: taperhive_why takes up to 46,000 bytes on x86-64 and 33,000 on Arm, the others 2,000 at
+ *   most. (The compiler's frames by -fstack-usage, taperhive_why's times its 61 levels. On Arm a
+ *   painted stack showed 30,800 bytes at level 56, and 1,360 for the most of the others.)
+ *
+ * THREADS
+ *   Functions are reentrant: threads may call them at the same time, each with buffers of its own that
+ *   are written. What is only read may be shared.
+ *
+ * BYTE ORDER
+ *   Files are little-endian on every machine. Numbers handed over are the machine's own. The library
+ *   is for x86-64 and 64-bit Arm Linux, both little-endian.
+ *
+ * TIME
+ *   A query checks at most `budget` boxes, so a call at most that times its queries (the records of a
+ *   file; fifteen for each two triangles), and a search clears the queue that it was lent. About 11 ns
+ *   a box were measured on an Arm Neoverse-V1 (docs/BENCH.md). That is not promised.
+ *
+ * UNITS
+ *   Lengths: 1/8 mm. t, u, v: 1/1,048,576 parts of the step and of the bodies.
+ *
+ * WHAT IS TOLD of a pair are eight numbers: id, word, t, u, v, excess, count, refusal number.
+ *   word     TAPERHIVE_REFUSED, _MET, _CLEAR, _SPENT, _ROOM or _FLOOR
+ *   t, u, v  the recorded moment and place (0 for CLEAR and a refused pair)
+ *   excess   how far F is beyond the separation there, on the axis where that is most, rounded up
+ *   count    boxes checked
+ *   refusal  1 to 7 for a refused pair, else 0
  * Numbers that an answer does not carry are 0.
  *
- * A file is of edition 1, 2 or 3, and says so itself; a call that reads one does not ask which. Editions differ in their records and in two ranges:
- *   edition   a record    separation           coordinate                  tolerance
- *   1         116 bytes   one for all axes     -1,048,576 to 1,048,576     16 to 1,048,576
- *   2         128 bytes   one for each axis    -1,048,576 to 1,048,576     16 to 1,048,576
- *   3         128 bytes   one for each axis    -2,097,152 to 2,097,152     64 to 1,048,576
- * So 1 and 2 have the shorter range, 131 m each way from the origin, and 3 the longer, 262 m. 3 COORD and 5 TOLERANCE go by the edition of the record's file. Separation (0 to 65,536),
- * budget (1 to 1,000,000) and queue have one range in all editions. t, u and v are told in 1/1,048,576 parts in all of them; those told of edition 3 are even.
+ * EDITIONS
+ *   A file is of edition 1, 2 or 3, and says so itself; a call that reads one does not ask which.
+ *     edition   a record    separation          coordinate                tolerance
+ *     1         116 bytes   one for all axes    -1,048,576 to 1,048,576   16 to 1,048,576
+ *     2         128 bytes   one for each axis   -1,048,576 to 1,048,576   16 to 1,048,576
+ *     3         128 bytes   one for each axis   -2,097,152 to 2,097,152   64 to 1,048,576
+ *   So 1 and 2 have the shorter range, 131 m each way from the origin, and 3 the longer, 262 m. 3 COORD
+ *   and 5 TOLERANCE go by the edition of the record's file. Separation (0 to 65,536), budget (1 to
+ *   1,000,000) and queue (2 to 1,048,576 words) have one range in all editions. t, u and v that are
+ *   told of edition 3 are even.
  *
- * What the functions on a file return: 0, or why nothing was done: 8 SHORT, 9 MARK, 10 EDITION, 11 COUNT, 12 BACK of the file, 13 INDEX of the record number,
- * 14 SPACE where fewer numbers are lent than are to be told; the lowest. Then nothing that was lent is changed. taperhive_why gives more numbers, said there. 10 is given where a file
- * names none of the three editions, or one of the three bytes behind that is not 0.
+ * REFUSALS OF A FILE: 8 to 12, and 13 of the record number; 14 where fewer numbers are lent than are to
+ * be told; the lowest. Then nothing that was lent is changed. taperhive_why gives more, said there. 10
+ * is given where a file names none of the three editions, or one of the three bytes behind is not 0.
  */
 #ifndef TAPERHIVE_H
 #define TAPERHIVE_H
@@ -32,64 +62,164 @@
 #include <stddef.h>
 #include <stdint.h>
 
+#define TAPERHIVE_VERSION "0.3.0"
+
 #ifdef __cplusplus
 extern "C" {
 #endif
 
-enum { TAPERHIVE_REFUSED, TAPERHIVE_MET, TAPERHIVE_CLEAR, TAPERHIVE_SPENT, TAPERHIVE_ROOM, TAPERHIVE_FLOOR };
-enum { TAPERHIVE_ID, TAPERHIVE_WORD, TAPERHIVE_T, TAPERHIVE_U, TAPERHIVE_V, TAPERHIVE_EXCESS, TAPERHIVE_COUNT, TAPERHIVE_NUMBER, TAPERHIVE_TOLD };
+/* The words, and where a pair's numbers stand. */
+enum {
+    TAPERHIVE_REFUSED, TAPERHIVE_MET, TAPERHIVE_CLEAR, TAPERHIVE_SPENT, TAPERHIVE_ROOM,
+    TAPERHIVE_FLOOR
+};
+enum {
+    TAPERHIVE_ID, TAPERHIVE_WORD, TAPERHIVE_T, TAPERHIVE_U, TAPERHIVE_V, TAPERHIVE_EXCESS,
+    TAPERHIVE_COUNT, TAPERHIVE_NUMBER, TAPERHIVE_TOLD
+};
+
+/* The refusals. docs/FORMAT.md says what to do about each. */
+enum {
+    TAPERHIVE_REFUSAL_KIND = 1, TAPERHIVE_REFUSAL_FLAGS, TAPERHIVE_REFUSAL_COORD,
+    TAPERHIVE_REFUSAL_SEPARATION, TAPERHIVE_REFUSAL_TOLERANCE, TAPERHIVE_REFUSAL_BUDGET,
+    TAPERHIVE_REFUSAL_QUEUE, TAPERHIVE_REFUSAL_SHORT, TAPERHIVE_REFUSAL_MARK,
+    TAPERHIVE_REFUSAL_EDITION, TAPERHIVE_REFUSAL_COUNT, TAPERHIVE_REFUSAL_BACK,
+    TAPERHIVE_REFUSAL_INDEX, TAPERHIVE_REFUSAL_SPACE,
+    TAPERHIVE_REFUSAL_BODY = 21, TAPERHIVE_REFUSAL_OUTSIDE = 23, TAPERHIVE_REFUSAL_NOT_RULED_OUT = 24
+};
+
+/* Kinds of pairs, and the flag that negates y of the second body's points. */
+enum { TAPERHIVE_VERTEX_FACE = 1, TAPERHIVE_EDGE_EDGE = 2 };
+enum { TAPERHIVE_FLAG_TURNED = 1 };
+
+/* The limits; those with a number are an edition's own. */
+enum {
+    TAPERHIVE_PARTS = 1048576,
+    TAPERHIVE_MOST_COORDINATE = 1048576, TAPERHIVE_MOST_COORDINATE_3 = 2097152,
+    TAPERHIVE_LEAST_TOLERANCE = 16, TAPERHIVE_LEAST_TOLERANCE_3 = 64,
+    TAPERHIVE_MOST_TOLERANCE = 1048576,
+    TAPERHIVE_MOST_SEPARATION = 65536,
+    TAPERHIVE_MOST_BUDGET = 1000000,
+    TAPERHIVE_LEAST_WORDS = 2, TAPERHIVE_MOST_WORDS = 1048576,
+    TAPERHIVE_MOST_RECORDS = 4096,
+    TAPERHIVE_MOST_TRIANGLES = 256
+};
+
+/* Sizes: a record's bytes, a trailer's, a pair's points and a triangle's corners in numbers. */
+enum {
+    TAPERHIVE_RECORD_BYTES_1 = 116, TAPERHIVE_RECORD_BYTES = 128, TAPERHIVE_TRAILER_BYTES = 16,
+    TAPERHIVE_POINTS = 24, TAPERHIVE_TRIANGLE = 9
+};
+
 /* Where taperhive_why tells what, its axes and its sides. */
-enum { TAPERHIVE_WHY_LEVEL, TAPERHIVE_WHY_DEPTH_T, TAPERHIVE_WHY_DEPTH_U, TAPERHIVE_WHY_DEPTH_V, TAPERHIVE_WHY_BOX_T, TAPERHIVE_WHY_BOX_U, TAPERHIVE_WHY_BOX_V,
-       TAPERHIVE_WHY_AXIS, TAPERHIVE_WHY_SIDE, TAPERHIVE_WHY_TOLD };
+enum {
+    TAPERHIVE_WHY_LEVEL, TAPERHIVE_WHY_DEPTH_T, TAPERHIVE_WHY_DEPTH_U, TAPERHIVE_WHY_DEPTH_V,
+    TAPERHIVE_WHY_BOX_T, TAPERHIVE_WHY_BOX_U, TAPERHIVE_WHY_BOX_V, TAPERHIVE_WHY_AXIS,
+    TAPERHIVE_WHY_SIDE, TAPERHIVE_WHY_TOLD
+};
 enum { TAPERHIVE_X, TAPERHIVE_Y, TAPERHIVE_Z };
 enum { TAPERHIVE_BELOW, TAPERHIVE_ABOVE };
+
 /* Where taperhive_bodies tells what; the sum's high half stands behind its low half. */
-enum { TAPERHIVE_BODIES_WORD, TAPERHIVE_BODIES_T, TAPERHIVE_BODIES_A, TAPERHIVE_BODIES_B, TAPERHIVE_BODIES_QUERY, TAPERHIVE_BODIES_EXCESS, TAPERHIVE_BODIES_COUNT };
+enum {
+    TAPERHIVE_BODIES_WORD, TAPERHIVE_BODIES_T, TAPERHIVE_BODIES_A, TAPERHIVE_BODIES_B,
+    TAPERHIVE_BODIES_QUERY, TAPERHIVE_BODIES_EXCESS, TAPERHIVE_BODIES_COUNT,
+    TAPERHIVE_BODIES_COUNT_HIGH, TAPERHIVE_BODIES_TOLD
+};
 
-/* Record n of the file. told's first eight numbers are written. The lent queue is as it was where the record is refused, and all zero where it is
- * answered; 2 to 1,048,576 words are taken, and what they hold does not matter. */
-uint32_t taperhive_answer(const uint8_t *file, size_t file_len, size_t n, uint64_t *queue, size_t queue_len, uint32_t *told, size_t told_len);
+/* Record n of the file. told's first eight numbers are written. The lent queue is as it was where the
+ * record is refused, and all zero where it is answered; what it holds before does not matter. */
+uint32_t taperhive_answer(const uint8_t *file, size_t file_len, size_t n,
+                          uint64_t *queue, size_t queue_len, uint32_t *told, size_t told_len);
 
-/* Every record of the file in order, eight numbers each, each as taperhive_answer tells it; a refused record takes its eight numbers and the walk goes on. The
- * queue is cleared once, not once a record: it is all zero afterwards where some record was answered, and as it was where none was. */
-uint32_t taperhive_answers(const uint8_t *file, size_t file_len, uint64_t *queue, size_t queue_len, uint32_t *told, size_t told_len);
+/* Every record of the file in order, eight numbers each, each as taperhive_answer tells it; a refused
+ * record takes its eight numbers and the walk goes on. The queue is cleared once, not once a record: it
+ * is all zero afterwards where some record was answered, and as it was where none was. */
+uint32_t taperhive_answers(const uint8_t *file, size_t file_len,
+                           uint64_t *queue, size_t queue_len, uint32_t *told, size_t told_len);
 
 /* How many records the file has, into told[0]. */
 uint32_t taperhive_count(const uint8_t *file, size_t file_len, uint32_t *told, size_t told_len);
 
-/* Why record n of the file is safe at the moment t and the place u, v, each in 1/1,048,576 parts: the first box that the search discarded on the way from the whole domain down to that
- * point, one level at a time, always into the half that holds it (the upper one on a boundary, except at 1). told's first nine numbers are written: level, depths of t, u, v, indices of t, u, v, axis, side.
- *   a box of depth k and index i goes from i to i + 1 times 2^(20-k) parts, in each of t, u, v, in every edition; the level is the sum of the depths
- *   depths go to 20 and levels to 60 in editions 1 and 2, depths to 19 and levels to 57 in edition 3: there a box begins and ends at even parts. t, u, v asked for may be odd
- *   axis    0 x, 1 y, 2 z: the first, x before y before z, on which the bodies are further apart than the separation all over the box
- *   side    0 below, 1 above: the side of the second body on which the first one is then
- * The lent queue is all zero then. Returns 0, or why nothing was told: 8 to 13 of the file and the number, 1 to 6 of the record, 7 QUEUE, 23 OUTSIDE where the point is not in the domain (t, u, v at most
- * 1,048,576, and for vertex-face u + v too), 14 where told has fewer than nine numbers, and then nothing lent is changed; last, 24 NOT RULED OUT where the search answers that moment or an earlier one: told
- * is as it was, and the queue is all zero, since the search has used it. */
-uint32_t taperhive_why(const uint8_t *file, size_t file_len, size_t n, uint32_t t, uint32_t u, uint32_t v, uint64_t *queue, size_t queue_len, uint32_t *told, size_t told_len);
+/* One pair without a file, told as taperhive_answer tells a record, and the queue left as it does. The
+ * edition says which range coordinates and tolerance have, and nothing else: with 1 too there are three
+ * separations. points are 24 numbers: x, y, z of p, v1, v2, v3 or of p1, p2, p3, p4 at the start, then
+ * of the same four at the end; of more the first 24 are read. cap is 0: no other number has a meaning
+ * yet, and it is refused 2. Returns 0 for a refused pair too, which is told with its 1 to 7. Else 10
+ * where the edition is not 1, 2 or 3; then 14 where there are fewer than 24 points' numbers or told has
+ * fewer than eight; and nothing lent is changed. */
+uint32_t taperhive_pair(uint8_t edition, uint8_t kind, uint8_t flags, uint32_t id,
+                        uint32_t dx, uint32_t dy, uint32_t dz,
+                        uint32_t tolerance, uint32_t budget, uint32_t cap,
+                        const int32_t *points, size_t points_len,
+                        uint64_t *queue, size_t queue_len, uint32_t *told, size_t told_len);
 
-/* Two bodies of triangles, a gangway and a hull, in one call: fifteen queries for each triangle of A with each of B (corners 1, 2, 3 of A with face B, those of B with
- * face A, then edges 12, 23, 31 of A each with 12, 23, 31 of B), pairs by A's triangle, then B's. Positions are nine numbers a triangle: x, y, z of its corners 1, 2, 3, once at the start and once at the
- * end of the step. Separations, tolerance and budget are those of every query; there is no flag. The edition says which range coordinates and tolerance have: 1 and 2 the shorter, 3 the longer. It says
- * nothing else here: with 1 too there are three separations.
- * told's first eight numbers are written: word, t, triangle of A, triangle of B, query, excess, and the sum of all counts in two numbers, the low 32 bits first.
- *   word CLEAR where all are clear; else the word of the least time's holder: the first query in order that has that time
+/* Why record n of the file is safe at the moment t and the place u, v: the first box that the search
+ * discarded on the way from the whole domain down to that point, one level at a time, always into the
+ * half that holds it (the upper one on a boundary, except at 1). told's first nine numbers are written:
+ * level, depths of t, u, v, indices of t, u, v, axis, side.
+ *   A box of depth k and index i goes from i to i + 1 times 2^(20-k) parts, in each of t, u, v, in
+ *   every edition; the level is the sum of the depths.
+ *   Depths go to 20 and levels to 60 in editions 1 and 2, depths to 19 and levels to 57 in edition 3:
+ *   there a box begins and ends at even parts. t, u, v asked for may be odd.
+ *   axis    0 x, 1 y, 2 z: the first, x before y before z, on which the bodies are further apart than
+ *           the separation all over the box
+ *   side    0 below, 1 above: the side of the second body on which the first one is then
+ * The lent queue is all zero then. Returns 0, or why nothing was told: 8 to 13 of the file and the
+ * number, 1 to 6 of the record, 7 QUEUE, 23 OUTSIDE where the point is not in the domain (t, u, v at
+ * most 1,048,576, and for vertex-face u + v too), 14 where told has fewer than nine numbers, and then
+ * nothing lent is changed; last, 24 NOT RULED OUT where the search answers that moment or an earlier
+ * one: told is as it was, and the queue is all zero, since the search has used it. */
+uint32_t taperhive_why(const uint8_t *file, size_t file_len, size_t n,
+                       uint32_t t, uint32_t u, uint32_t v,
+                       uint64_t *queue, size_t queue_len, uint32_t *told, size_t told_len);
+
+/* Two bodies of triangles, a gangway and a hull, in one call: fifteen queries for each triangle of A
+ * with each of B (corners 1, 2, 3 of A with face B, those of B with face A, then edges 12, 23, 31 of A
+ * each with 12, 23, 31 of B), pairs by A's triangle, then B's. Positions are nine numbers a triangle:
+ * x, y, z of its corners 1, 2, 3, once at the start and once at the end of the step. Separations,
+ * tolerance and budget are those of every query; there is no flag. The edition says which range
+ * coordinates and tolerance have, as for taperhive_pair.
+ * told's first eight numbers are written: word, t, triangle of A, triangle of B, query, excess, and the
+ * sum of all counts in two numbers, the low 32 bits first.
+ *   word CLEAR where all are clear; else the word of the least time's holder: the first query in order
+ *   that has that time
  *   t, excess    its own; triangles count from 0, queries from 1; all of them 0 for CLEAR
  *   in edition 3 t is even
- * The lent queue is all zero then. Returns 0, or why nothing was done and nothing lent was changed: first 10 EDITION where the edition is not 1, 2 or 3; then 21 BODY where a body has
- * not 1 to 256 triangles, or some slice not nine numbers a triangle; then the number 3 to 7 of the first refused query in order; then 14 where told has fewer than eight numbers. */
-uint32_t taperhive_bodies(uint8_t edition, uint32_t dx, uint32_t dy, uint32_t dz, uint32_t tolerance, uint32_t budget,
-                          size_t a_count, const int32_t *a_start, size_t a_start_len, const int32_t *a_end, size_t a_end_len,
-                          size_t b_count, const int32_t *b_start, size_t b_start_len, const int32_t *b_end, size_t b_end_len,
+ * The lent queue is all zero then. Returns 0, or why nothing was done and nothing lent was changed:
+ * first 10 where the edition is not 1, 2 or 3; then 21 BODY where a body has not 1 to 256 triangles, or
+ * some list not nine numbers a triangle; then the number 3 to 7 of the first refused query in order;
+ * then 14 where told has fewer than eight numbers. */
+uint32_t taperhive_bodies(uint8_t edition, uint32_t dx, uint32_t dy, uint32_t dz,
+                          uint32_t tolerance, uint32_t budget,
+                          size_t a_count, const int32_t *a_start, size_t a_start_len,
+                          const int32_t *a_end, size_t a_end_len,
+                          size_t b_count, const int32_t *b_start, size_t b_start_len,
+                          const int32_t *b_end, size_t b_end_len,
                           uint64_t *queue, size_t queue_len, uint32_t *told, size_t told_len);
 
-/* Record n of a file, written into another buffer from place `at` on, in edition 1, 2 or 3. Returns 0, or why nothing was done and no byte was changed: 8 to 13 of the file and the
- * number, 1 to 6 of the record in the file's edition, then 1 to 6 of it in the edition to write (3 and 5 by that range, and 4 for edition 1 where the three separations differ), 10 for an edition other
- * than 1, 2 and 3 (up to there it has the shorter range), 14 where fewer bytes than the record's 116 or 128 stand from that place on, a place past the end included. */
-uint32_t taperhive_copy(const uint8_t *file, size_t file_len, size_t n, uint8_t edition, uint8_t *out, size_t out_len, size_t at);
+/* A record from numbers, written from place `at` of out on, in edition 1, 2 or 3: 116, 128, 128 bytes,
+ * and no other byte is changed. points and cap are those of taperhive_pair. Returns 0, or why nothing
+ * was done and no byte was changed: first 14 where there are fewer than 24 points' numbers; then 1 to 6
+ * of the record in that edition (4 for edition 1 also where the three separations differ); 10 for
+ * another edition (up to there it has the shorter range); 14 where fewer bytes than the record's stand
+ * from that place on, a place past the end included. */
+uint32_t taperhive_write(uint8_t *out, size_t out_len, size_t at, uint8_t edition,
+                         uint8_t kind, uint8_t flags, uint32_t id,
+                         uint32_t dx, uint32_t dy, uint32_t dz,
+                         uint32_t tolerance, uint32_t budget, uint32_t cap,
+                         const int32_t *points, size_t points_len);
 
-/* The 16 bytes of a query file's trailer from place `at` on, behind so many records of that edition. Returns 0, or 10, 11, 12 (fewer bytes before the place than the records take), 14, and no
- * byte is changed. */
+/* Record n of a file, written into another buffer from place `at` on, in edition 1, 2 or 3. Returns 0,
+ * or why nothing was done and no byte was changed: 8 to 13 of the file and the number, 1 to 6 of the
+ * record in the file's edition, then 1 to 6 of it in the edition to write (3 and 5 by that range, and 4
+ * for edition 1 where the three separations differ), then 10 and 14 as taperhive_write gives them. */
+uint32_t taperhive_copy(const uint8_t *file, size_t file_len, size_t n, uint8_t edition,
+                        uint8_t *out, size_t out_len, size_t at);
+
+/* The 16 bytes of a query file's trailer from place `at` on, behind so many records of that edition.
+ * Returns 0, or 10, 11, 12 (fewer bytes before the place than the records take), 14, and no byte is
+ * changed. */
 uint32_t taperhive_trailer(uint8_t *out, size_t out_len, size_t at, uint8_t edition, uint32_t count);
 
 #ifdef __cplusplus

@@ -1,12 +1,12 @@
-//! The comparison of the writers: right ones pass, every wrong one is reported.
+//! The comparison of the writers, and of what is given in numbers: right functions pass, every wrong one is reported.
 
 #[macro_use]
 mod stub;
 
-use second::beside::{compare, tally::Tally, writing, Case, Library};
+use second::beside::{compare, given, tally::Tally, writing, Case, Library};
 use second::gen::{flavours, generate};
 use stub::writing::{Fault, FAULTS};
-use stub::{assert_reported, library, ranged_library, ranges, writing_library};
+use stub::{assert_reported, given_library, library, ranged_library, ranges, writing_library};
 
 /// A file alone: the writers need no queue.
 fn case(seed: u64, flavour: &'static str) -> Case {
@@ -112,4 +112,42 @@ fn tally_counts_copies_trailers_and_refusals() {
     let copies = text.split(" copies, ").next().unwrap().rsplit(' ').next().unwrap();
     // The records of the largest files alone are as many.
     assert!(copies.parse::<usize>().unwrap() > 6 * 3 * 4096, "{text}");
+}
+
+/// The flavours whose files are quick, with queue lengths: pairs are asked too.
+fn asked_cases() -> Vec<Case> {
+    let quick: Vec<&str> = flavours()
+        .into_iter()
+        .filter(|name| !name.starts_with("many") && !name.starts_with("queue"))
+        .collect();
+    (1..4).flat_map(|seed| quick.iter().map(move |name| Case::new(seed, name).unwrap())).collect()
+}
+
+/// How many of the cases differ in what is given in numbers; no more than enough are looked for.
+fn given_reported(library: Library, cases: &[Case]) -> usize {
+    let differs = |case: &&Case| !given::compare(&library, case, &mut Tally::default()).is_empty();
+    cases.iter().filter(differs).take(ENOUGH).count()
+}
+
+#[test]
+fn what_is_given_in_numbers_passes_and_wrong_functions_are_reported() {
+    use given_reported as reported;
+    let cases = asked_cases();
+    let found = each!(given_library, &cases,
+        0 1 2 3 4 5 6 7 8 9 10 11 12 13 14 15 16 17 18 19 20 21);
+    assert_reported(stub::given::FAULTS, &found, &[stub::given::Fault::None], ENOUGH);
+}
+
+#[test]
+fn tally_counts_records_from_numbers() {
+    let mut tally = Tally::default();
+    assert!(!tally.to_string().contains(" records from numbers"));
+    for case in asked_cases() {
+        assert_eq!(given::compare(&library::<0>(), &case, &mut tally), Vec::<String>::new());
+    }
+    let text = tally.to_string();
+    for number in [1, 2, 3, 4, 5, 6, 10, 14] {
+        assert!(text.contains(&format!(" {number}: ")), "{text}");
+    }
+    assert!(text.contains(" pairs without a file; ") && !text.contains(", 0 pairs"), "{text}");
 }

@@ -139,6 +139,12 @@ unfolding tellsFrom queueFrom
 alone {edition = edition} {at = at} {s = s} {queue = queue} {out = out} told left =
     record { told = told ∙ ap (λ (l : List ℕ). put out 0 l) (append-nil (tells (recordAt edition s at) (length queue))); left = left; zero = λ e. let z : _≡_ {A = ℕ} 0 1 = cc in absurd (omega arith) }
 
+-- where a record is known, what is told and left is that record's
+pub known : {edition at to : ℕ} {s queue queue′ out out′ : List ℕ} {clean clean′ : Bool} {r : Record} → recordAt edition s at ≡ r → Answered edition s at queue queue′ clean out to out′ clean′
+    → (out′ ≡ put out to (tells r (length queue))) × (queue′ ≡ queueAfter (search r (length queue)) queue)
+known {to = to} {queue = queue} {out = out} e a =
+    (a .told ∙ ap (λ (x : Record). put out to (tells x (length queue))) e, a .left ∙ ap (λ (x : Record). queueAfter (search x (length queue)) queue) e)
+
 -- the record that stands n records behind the first is record n of the file
 pub at-place : {edition place at : ℕ} {queue queue′ out out′ : List ℕ} {to : ℕ} {clean clean′ : Bool} (s : List ℕ) (n : ℕ) → edition ≡ editionOf s → place ≡ trailerPlace s - backPointer s
     → at ≡ place + recordSize edition * n → Answered edition s at queue queue′ clean out to out′ clean′ → Answered (editionOf s) s (placeOf s n) queue queue′ clean out to out′ clean′

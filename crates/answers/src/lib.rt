@@ -1,19 +1,24 @@
 // The records of a query file, searched and told in eight numbers each.
 ghost use mathlib.Core.Path.{_≡_};
+ghost use mathlib.Core.Bool.{true};
 ghost use mathlib.Core.List.{_∷_, []};
 ghost use Prim.Native.Nat.{_+_, _*_, _≤_};
 ghost use lib.ListN.{length};
-ghost use Rattle.rules.specs.Answers.{told};
-ghost use Rattle.rules.specs.QueryFile.{recordSize, put};
+ghost use Rattle.rules.specs.Answers.{told, queueAfter};
+ghost use Rattle.rules.specs.QueryFile.{isWide, recordSize, put};
+ghost use Rattle.rules.specs.Search.{search};
+ghost use Rattle.queries.specs.RoundTrip.{Held};
 ghost use Rattle.answers.specs.Eight.{eight};
 ghost use Rattle.answers.specs.Step.{isAnswered, Answering, Answered};
-ghost use Rattle.answers.specs.Walk.{tellsFrom, queueFrom, One, Every, Counted};
+ghost use Rattle.answers.specs.Walk.{tells, tellsFrom, queueFrom, One, Every, Counted};
 use asking::id_at;
 use asking::search_at;
 use queries::open_file;
+use queries::record::encode;
 use queries::record::place_of;
 use rules::Answer;
 use rules::Opened;
+use rules::Record;
 use rules::Told;
 
 mod asking; // asking.rt: a record asked where it stands in a file
@@ -182,6 +187,17 @@ pub fn answer_records(
         clean = answer_at(file, edition, at, queue, clean, out, 8 * i);
         i += 1;
     }
+}
+
+// A record that stands in no file: it is asked where its bytes stand, so that there is one way into the search.
+pub fn answer_record(r: Record, queue: &mut [u64], out: &mut [u32])
+    requires { ⌜ Held true r × (isWide (r .edition) ≡ true) × (8 ≤ length (now out)) ⌝ }
+    ensures { λ _. ⌜ now (out .exit) ≡ put (now (out .entry)) 0 (tells r (length (now (queue .entry)))) ⌝ }
+    ensures { λ _. ⌜ now (queue .exit) ≡ queueAfter (search r (length (now (queue .entry)))) (now (queue .entry)) ⌝ }
+{
+    let mut bytes = [0u8; 128];
+    encode(&mut bytes, 0, r.edition, r);
+    answer_records(&bytes, r.edition, 0, 1, queue, out);
 }
 
 // Record n of a file.

@@ -1,2 +1,3 @@
 -- What the proofs of `controller` cite.
 pub mod Writing
+pub mod Giving

@@ -1,2 +1,3 @@
 -- What the library's writers promise.
 pub mod Copying
+pub mod Given

@@ -1,12 +1,19 @@
 // The library for a controller: numbers and slices only. include/taperhive.h says what each function does.
 ghost use mathlib.Core.Path.{_≡_};
 ghost use Rattle.answers.specs.Walk.{One, Every, Counted};
+ghost use Rattle.answers.specs.Pair.{Pair};
 ghost use Rattle.bodies.specs.Asking.{body};
 ghost use Rattle.bodies.specs.Telling.{Tells};
 ghost use Rattle.reasons.specs.Telling.{TellsWhy};
 ghost use Rattle.controller.specs.Copying.{numberOf, Copied, Ended};
+ghost use Rattle.controller.specs.Given.{recordOf, rangeOf, Writes};
+use given::range_of;
+use given::record_of;
+use refusals::is_edition;
 use rules::Terms;
 use rules::Wrote;
+
+mod given; // given.rt: the record of a pair that is given in numbers
 
 // Record n of a query file.
 #[no_mangle]
@@ -83,6 +90,44 @@ pub extern "C" fn taperhive_copy(
     number(queries::write_record(out, at, edition, query))
 }
 
+// A record from numbers; the points are 24 of them, four points at the start and four at the end.
+#[no_mangle]
+pub extern "C" fn taperhive_write(
+    out: &mut [u8],
+    at: usize,
+    edition: u8,
+    kind: u8,
+    flags: u8,
+    id: u32,
+    dx: u32,
+    dy: u32,
+    dz: u32,
+    tolerance: u32,
+    budget: u32,
+    cap: u32,
+    points: &[i32],
+) -> u32
+    ensures { λ r. ⌜ Writes edition (now (points .entry)) (recordOf edition kind flags id dx dy dz tolerance budget cap (now (points .entry))) (now (out .entry)) at (now (out .exit)) r ⌝ }
+{
+    if points.len() < 24 {
+        return 14;
+    }
+    let pair = record_of(
+        edition,
+        kind,
+        flags,
+        id,
+        dx,
+        dy,
+        dz,
+        tolerance,
+        budget,
+        cap,
+        points,
+    );
+    number(queries::write_record(out, at, edition, pair))
+}
+
 // The trailer of a query file.
 #[no_mangle]
 pub extern "C" fn taperhive_trailer(out: &mut [u8], at: usize, edition: u8, count: u32) -> u32
@@ -120,4 +165,50 @@ pub extern "C" fn taperhive_bodies(
         edition,
     };
     bodies::answer_bodies(w, m, a0, a1, n, b0, b1, queue, told)
+}
+
+// One pair without a file, in the range of an edition; its own refusals are told.
+#[no_mangle]
+pub extern "C" fn taperhive_pair(
+    edition: u8,
+    kind: u8,
+    flags: u8,
+    id: u32,
+    dx: u32,
+    dy: u32,
+    dz: u32,
+    tolerance: u32,
+    budget: u32,
+    cap: u32,
+    points: &[i32],
+    queue: &mut [u64],
+    told: &mut [u32],
+) -> u32
+    ensures { λ r. ⌜ Pair edition (now (points .entry)) (recordOf (rangeOf edition) kind flags id dx dy dz tolerance budget cap (now (points .entry))) (now (queue .entry)) (now (queue .exit)) (now (told .entry)) (now (told .exit)) r ⌝ }
+{
+    if !is_edition(edition) {
+        return 10;
+    }
+    if points.len() < 24 {
+        return 14;
+    }
+    if told.len() < 8 {
+        return 14;
+    }
+    let range = range_of(edition);
+    let query = record_of(
+        range,
+        kind,
+        flags,
+        id,
+        dx,
+        dy,
+        dz,
+        tolerance,
+        budget,
+        cap,
+        points,
+    );
+    answers::answer_record(query, queue, told);
+    0
 }

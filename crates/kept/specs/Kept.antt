@@ -1,8 +1,9 @@
--- What `taperhive_answer`, `taperhive_answers` and `taperhive_bodies` tell and what `sweep` prints keeps the promises (promise/specs), by their own contracts
--- alone: so demand 3 is a theorem of the functions that are shipped. That of `taperhive_why` is `told-kept` in reasons/specs/Laws.antt.
+-- What `taperhive_answer`, `taperhive_answers`, `taperhive_pair` and `taperhive_bodies` tell and what `sweep` prints keeps the promises (promise/specs), by their own
+-- contracts alone: so demand 3 is a theorem of what is shipped. That of `taperhive_why` is `told-kept` in reasons/specs/Laws.antt.
 use Prim.Native.Nat.{ℕ, zero, suc, _+_}
 use mathlib.Core.Path.{_≡_, refl, ap, _∙_}
 use mathlib.Core.List.{List}
+use lib.IntN.{ℤ}
 use lib.ListN.{length, take, drop}
 use Rattle.rules.specs.declared.Record.{Record}
 use Rattle.rules.specs.declared.Terms.{Terms}
@@ -12,6 +13,7 @@ use Rattle.rules.specs.Bodies.{Body, bodySearch}
 use Rattle.rules.specs.QueryFile.{recordSize, recordAt, recordCount, editionOf, placeOf, putUnless, put}
 use Rattle.answers.specs.Eight.{eight}
 use Rattle.answers.specs.Walk.{One, Every, tells, tellsFrom}
+use Rattle.answers.specs.Pair.{Pair}
 use Rattle.bodies.specs.Telling.{Tells, bodyTold}
 use Rattle.text.specs.declared.Written.the-variants.{Text}
 use Rattle.text.specs.Text.{rows, fileText}
@@ -47,6 +49,12 @@ pub answers-kept : (s queue queue′ out out′ : List ℕ) → Every s queue qu
     (out′ ≡ put out 0 numbers) × EachKept (editionOf s) s (length queue) (recordCount s) (placeOf s 0) numbers
 unfolding putUnless
 answers-kept s queue queue′ out out′ h = (h .told, each-kept (editionOf s) s (length queue) (recordCount s) (placeOf s 0))
+
+-- `taperhive_pair`, where it returns 0; r is the record that its numbers make
+pub pair-kept : (edition : ℕ) (points : List ℤ) (r : Record) (queue queue′ out out′ : List ℕ) → Pair edition points r queue queue′ out out′ 0
+    → (out′ ≡ put out 0 (eight (r .id) (told (search r (length queue))))) × Promised r (told (search r (length queue)))
+unfolding putUnless tells
+pair-kept edition points r queue queue′ out out′ h = (h .told, demand-3 r (length queue))
 
 -- `taperhive_bodies`, where it returns 0
 pub bodies-kept : (w : Terms) (a b : Body) (queue queue′ out out′ : List ℕ) → Tells w a b queue queue′ out out′ 0

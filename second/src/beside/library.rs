@@ -2,63 +2,16 @@
 
 use super::buffers::{Lent, Shifted};
 use super::expected::{answered, Expected, TOLD};
+use super::functions::{Answers, Copied, Count, OneAnswer, Pair, Trailer, TwoBodies, Why, Write};
 use super::judged::{differences, Must};
 use super::places::absent;
 use super::tally::Tally;
 use super::{Case, LONG};
 use crate::bodies::Bodies;
 use crate::edition::Edition;
+use crate::record::Record;
 use crate::rng::Rng;
 use crate::why::Parts;
-
-/// File, queue, told; a slice is a pointer and then a length.
-pub type Answers = unsafe extern "C" fn(*const u8, usize, *mut u64, usize, *mut u32, usize) -> u32;
-/// File, number of the record, queue, told.
-pub type OneAnswer =
-    unsafe extern "C" fn(*const u8, usize, usize, *mut u64, usize, *mut u32, usize) -> u32;
-/// File, number of the record, t, u, v, queue, told.
-pub type Why = unsafe extern "C" fn(
-    *const u8,
-    usize,
-    usize,
-    u32,
-    u32,
-    u32,
-    *mut u64,
-    usize,
-    *mut u32,
-    usize,
-) -> u32;
-/// File, count.
-pub type Count = unsafe extern "C" fn(*const u8, usize, *mut u32, usize) -> u32;
-/// File, number of the record, edition, buffer, place.
-pub type Copied = unsafe extern "C" fn(*const u8, usize, usize, u8, *mut u8, usize, usize) -> u32;
-/// Buffer, place, edition, count.
-pub type Trailer = unsafe extern "C" fn(*mut u8, usize, usize, u8, u32) -> u32;
-
-/// Edition; separations, tolerance, budget; A's count, start, end; B's; queue; told.
-pub type TwoBodies = unsafe extern "C" fn(
-    u8,
-    u32,
-    u32,
-    u32,
-    u32,
-    u32,
-    usize,
-    *const i32,
-    usize,
-    *const i32,
-    usize,
-    usize,
-    *const i32,
-    usize,
-    *const i32,
-    usize,
-    *mut u64,
-    usize,
-    *mut u32,
-    usize,
-) -> u32;
 
 /// The C functions under test.
 #[derive(Clone, Copy)]
@@ -68,6 +21,8 @@ pub struct Library {
     pub count: Count,
     pub copy: Copied,
     pub trailer: Trailer,
+    pub write: Write,
+    pub pair: Pair,
     pub bodies: TwoBodies,
     pub why: Why,
 }
@@ -121,6 +76,42 @@ impl Library {
     pub fn trailer(&self, out: &mut [u8], at: usize, edition: u8, count: u32) -> u32 {
         // Sound: as above.
         unsafe { (self.trailer)(out.as_mut_ptr(), out.len(), at, edition, count) }
+    }
+
+    pub fn write(&self, out: &mut [u8], at: usize, edition: u8, r: &Record, points: &[i32]) -> u32 {
+        let (lent, out, [x, y, z]) = (out.len(), out.as_mut_ptr(), r.separations);
+        let (kind, flags, id) = (r.kind, r.flags, r.id);
+        let (tolerance, budget, cap) = (r.tolerance, r.budget, r.spare);
+        let (from, numbers) = (points.as_ptr(), points.len());
+        // Sound: as above.
+        unsafe {
+            (self.write)(
+                out, lent, at, edition, kind, flags, id, x, y, z, tolerance, budget, cap, from,
+                numbers,
+            )
+        }
+    }
+
+    pub fn pair(
+        &self,
+        edition: u8,
+        r: &Record,
+        points: &[i32],
+        queue: &mut [u64],
+        told: &mut [u32],
+    ) -> u32 {
+        let (kind, flags, id, [x, y, z]) = (r.kind, r.flags, r.id, r.separations);
+        let (tolerance, budget, cap) = (r.tolerance, r.budget, r.spare);
+        let (from, numbers) = (points.as_ptr(), points.len());
+        let (words, lent) = (queue.len(), told.len());
+        // Sound: as above.
+        unsafe {
+            let (queue, told) = (queue.as_mut_ptr(), told.as_mut_ptr());
+            (self.pair)(
+                edition, kind, flags, id, x, y, z, tolerance, budget, cap, from, numbers, queue,
+                words, told, lent,
+            )
+        }
     }
 
     pub fn bodies(&self, bodies: &Bodies, queue: &mut [u64], told: &mut [u32]) -> u32 {

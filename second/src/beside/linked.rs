@@ -31,6 +31,41 @@ extern "C" {
         at: usize,
     ) -> u32;
     fn taperhive_trailer(out: *mut u8, out_len: usize, at: usize, edition: u8, count: u32) -> u32;
+    fn taperhive_write(
+        out: *mut u8,
+        out_len: usize,
+        at: usize,
+        edition: u8,
+        kind: u8,
+        flags: u8,
+        id: u32,
+        dx: u32,
+        dy: u32,
+        dz: u32,
+        tolerance: u32,
+        budget: u32,
+        cap: u32,
+        points: *const i32,
+        points_len: usize,
+    ) -> u32;
+    fn taperhive_pair(
+        edition: u8,
+        kind: u8,
+        flags: u8,
+        id: u32,
+        dx: u32,
+        dy: u32,
+        dz: u32,
+        tolerance: u32,
+        budget: u32,
+        cap: u32,
+        points: *const i32,
+        points_len: usize,
+        queue: *mut u64,
+        queue_len: usize,
+        told: *mut u32,
+        told_len: usize,
+    ) -> u32;
     fn taperhive_bodies(
         edition: u8,
         dx: u32,
@@ -74,6 +109,8 @@ pub fn library() -> Library {
         count: taperhive_count,
         copy: taperhive_copy,
         trailer: taperhive_trailer,
+        write: taperhive_write,
+        pair: taperhive_pair,
         bodies: taperhive_bodies,
         why: taperhive_why,
     }

@@ -3,6 +3,8 @@
 pub mod bodies;
 mod buffers;
 mod expected;
+mod functions;
+pub mod given;
 mod judged;
 mod library;
 #[cfg(feature = "beside")]
@@ -101,6 +103,7 @@ pub fn compare(library: &Library, case: &Case, tally: &mut Tally) -> Vec<String>
         differences.extend(of_twin.iter().map(|line| format!("as edition {edition}: {line}")));
     }
     differences.extend(writing::compare(library, case, tally));
+    differences.extend(given::compare(library, case, tally));
     differences
 }
 

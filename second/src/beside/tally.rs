@@ -16,8 +16,11 @@ pub struct Tally {
     /// Records compared, of editions 1, 2 and 3.
     queries: [u64; Edition::ALL.len()],
     boxes: u64,
-    /// Calls that write a record, and that write a trailer.
+    /// Calls that copy a record, that write one from numbers, and that write a trailer.
     copies: u64,
+    given: u64,
+    /// Pairs told without a file, of any edition.
+    pairs: u64,
     trailers: u64,
     /// Whole files written by such calls.
     written: u64,
@@ -36,9 +39,15 @@ impl Tally {
         }
     }
 
-    /// A call that writes a record, and the number that refuses it, or 0.
+    /// A call that copies a record, and the number that refuses it, or 0.
     pub fn copy(&mut self, number: u32) {
         self.copies += 1;
+        self.call((number != 0).then_some(number));
+    }
+
+    /// The same of a record from numbers.
+    pub fn given(&mut self, number: u32) {
+        self.given += 1;
         self.call((number != 0).then_some(number));
     }
 
@@ -55,6 +64,16 @@ impl Tally {
     /// What must be told of a record of a file of this edition.
     pub fn told(&mut self, edition: Edition, told: &[u32; TOLD]) {
         self.queries[usize::from(edition.number()) - 1] += 1;
+        self.answer(told);
+    }
+
+    /// The same of a pair without a file, which is no file's query.
+    pub fn pair(&mut self, told: &[u32; TOLD]) {
+        self.pairs += 1;
+        self.answer(told);
+    }
+
+    fn answer(&mut self, told: &[u32; TOLD]) {
         self.boxes += u64::from(told[6]);
         self.words[told[1] as usize] += 1;
         if told[1] == 0 {
@@ -114,9 +133,12 @@ impl fmt::Display for Tally {
         write!(f, "{files} files, {calls} calls, {} queries", one + two + three)?;
         write!(f, " (edition 1: {one}, edition 2: {two}, edition 3: {three}), {boxes} boxes;")?;
         write_answers(f, &self.words, &self.refusals)?;
-        let Tally { copies, trailers, written, .. } = self;
+        let Tally { copies, given, pairs, trailers, written, .. } = self;
         if copies + trailers > 0 {
             write!(f, "; {copies} copies, {trailers} trailers, {written} files written")?;
+        }
+        if given + pairs > 0 {
+            write!(f, "; {given} records from numbers, {pairs} pairs without a file")?;
         }
         write!(f, "; {differing} files differ")
     }

@@ -16,6 +16,7 @@ macro_rules! each {
 }
 
 pub mod bodies;
+pub mod given;
 pub mod ranges;
 pub mod why;
 pub mod writing;
@@ -55,6 +56,8 @@ pub fn ranged_library<const R: usize>() -> Library {
         count: count::<0>,
         copy: writing::copy::<0, R>,
         trailer: writing::trailer::<0>,
+        write: given::write::<0>,
+        pair: given::pair::<0>,
         bodies: bodies::bodies::<0, R, false>,
         why: why::why::<0, R>,
     }
@@ -63,6 +66,11 @@ pub fn ranged_library<const R: usize>() -> Library {
 /// The library with fault number N of the writers' list.
 pub fn writing_library<const N: usize>() -> Library {
     Library { copy: writing::copy::<N, 0>, trailer: writing::trailer::<N>, ..library::<0>() }
+}
+
+/// The library with fault number N of the list of what is given in numbers.
+pub fn given_library<const N: usize>() -> Library {
+    Library { write: given::write::<N>, pair: given::pair::<N>, ..library::<0>() }
 }
 
 /// The library with fault number N of the bodies' list.
