@@ -1,22 +1,23 @@
 -- The next level loses no place of the bodies: a box that holds one has a half that does, and no such half is dropped. Its boxes stay on the grid.
-use mathlib.Core.Path.{_≡_, sym, ap, _∙_, subst}
+use mathlib.Core.Path.{_≡_, refl, sym, ap, _∙_, subst}
 use mathlib.Core.Logic.{_⊎_, inl, inr, ⊎-map}
 use mathlib.Core.Bool.{Bool, true, false, not}
 use mathlib.Core.List.{List, map}
 use Prim.Native.Nat.{ℕ, suc, _+_, _*_, _-_, _^_, _≤_, _<_}
-use native.Mathlib.Nat.{le-of-lt, mul-comm, mul-assoc, mul-le-mul-left, pow-suc}
+use native.Mathlib.Nat.{le-of-lt, mul-comm, mul-assoc, pow-suc}
 use native.Mathlib.Omega.{arith}
 use lib.Dec.{T, leb, leb→le, nleb→lt}
 use Rattle.rules.specs.declared.Parameter.{Parameter}
 use Rattle.rules.specs.declared.Parameter.the-variants.{InT, InU, InV}
 use Rattle.rules.specs.Numbers.{parts}
 use Rattle.rules.specs.Gap.{Place}
-use Rattle.rules.specs.Search.{Query, Box, Depths, side, high, on, deeper, lowHalf, highHalf, inside, halves}
+use Rattle.rules.specs.Search.{Query, Box, Depths, side, high, on, deeper, lowHalf, highHalf, inside, those, halves}
 use Rattle.kernel.specs.Ranges.{InGrid}
 use Rattle.promise.proofs.Box.{Between, In}
 use Rattle.promise.proofs.Split.{at}
 use Rattle.promise.proofs.Domain.{Domain, in-inside}
-use Rattle.promise.proofs.Lists.{Every, Some, Ascending, those-every, those-some, those-ascending, map-every, map-some, map-ascending, merge-every, merge-some, merge-ascending}
+use Rattle.promise.proofs.Before.{Apart, on-up}
+use Rattle.promise.proofs.Lists.{Every, Some, Before, Ascending, every-weaken, those-every, those-some, those-ascending, map-every, map-all, map-some, map-ascending, merge-every, merge-some, merge-ascending}
 
 -- ---- one parameter: a cell is its two halves
 half-side : (k : ℕ) → k < 20 → side k ≡ side (k + 1) * 2
@@ -84,25 +85,40 @@ low-grid p k b g = grid-on p (λ i. 2 * i) g (omega (arith, grid-at p g, twice (
 high-grid : (p : Parameter) (k : Depths) (b : Box) → InGrid k b → InGrid (deeper p k) (highHalf p b)
 high-grid p k b g = grid-on p (λ i. 2 * i + 1) g (omega (arith, grid-at p g, twice (at p k)))
 
-low-up : (p : Parameter) (a b : Box) → a .t ≤ b .t → lowHalf p a .t ≤ lowHalf p b .t
-low-up InT a b h = mul-le-mul-left 2 h
-low-up InU a b h = h
-low-up InV a b h = h
+low-up : (p : Parameter) (a b : Box) → Before a b → Before (lowHalf p a) (lowHalf p b)
+low-up p = on-up p (λ i. 2 * i) (λ i j h. omega arith)
 
-high-up : (p : Parameter) (a b : Box) → a .t ≤ b .t → highHalf p a .t ≤ highHalf p b .t
-high-up InT a b h = omega arith
-high-up InU a b h = h
-high-up InV a b h = h
+high-up : (p : Parameter) (a b : Box) → Before a b → Before (highHalf p a) (highHalf p b)
+high-up p = on-up p (λ i. 2 * i + 1) (λ i j h. omega arith)
+
+-- no low half is a high one: an index is even here and odd there
+abbrev Has : Parameter → (ℕ → ℕ) → Box → Type 0
+Has p f b = (i : ℕ) × (at p b ≡ f i)
+
+on-has : (p : Parameter) (f : ℕ → ℕ) (b : Box) → Has p f (on p f b)
+on-has InT f b = (b .t, refl)
+on-has InU f b = (b .u, refl)
+on-has InV f b = (b .v, refl)
+
+low-high-apart : (p : Parameter) (x y : Box) → Has p (λ i. 2 * i) x → Has p (λ i. 2 * i + 1) y → Apart x y
+low-high-apart InT x y g h e f d = omega (arith, g .1, h .1, e)
+low-high-apart InU x y g h e f d = omega (arith, g .1, h .1, f)
+low-high-apart InV x y g h e f d = omega (arith, g .1, h .1, d)
 
 -- ---- the next level
 module _ (S : Query) (k : Depths) (p : Parameter) (l : List Box) where
   abbrev keeps : Box → Bool
   keeps = inside S (deeper p k)
 
+  -- the halves on one side of the level's boxes
+  side-has : (f : ℕ → ℕ) → Every (Has p f) (those keeps (map (on p f) l))
+  side-has f = every-weaken (λ b h. h .0) (those keeps (map (on p f) l)) (those-every (Has p f) keeps (map (on p f) l) (map-all (Has p f) (on p f) (on-has p f) l))
+
   pub halves-ascending : Ascending l → Ascending (halves S (deeper p k) p l)
   unfolding halves
   halves-ascending h =
-      merge-ascending _ _ (those-ascending keeps (map (lowHalf p) l) (map-ascending (lowHalf p) (low-up p) l h))
+      merge-ascending (Has p (λ i. 2 * i)) (Has p (λ i. 2 * i + 1)) (low-high-apart p) _ _ (side-has (λ i. 2 * i)) (side-has (λ i. 2 * i + 1))
+      (those-ascending keeps (map (lowHalf p) l) (map-ascending (lowHalf p) (low-up p) l h))
       (those-ascending keeps (map (highHalf p) l) (map-ascending (highHalf p) (high-up p) l h))
 
   pub halves-grid : Every (InGrid k) l → Every (λ b. InGrid (deeper p k) b × T (inside S (deeper p k) b)) (halves S (deeper p k) p l)

@@ -20,7 +20,7 @@ use Rattle.rules.specs.Search.{Query, Box, Depths, side, low, unit, survives, c
 use Rattle.kernel.specs.Ranges.{InGrid}
 use Rattle.promise.proofs.Box.{Between, In, HasKernel}
 use Rattle.promise.proofs.Survive.{Close, close-survives}
-use Rattle.promise.proofs.Lists.{Every, Some, From, Ascending, every-weaken, some-weaken, those-every, those-some, those-ascending}
+use Rattle.promise.proofs.Lists.{Every, Some, From, Ascending, later-t, every-weaken, some-weaken, those-every, those-some, those-ascending}
 use Rattle.promise.proofs.Split.{Shallow, at, split-open, deeper-shallow, sum, deeper-sum}
 use Rattle.promise.proofs.Domain.{Domain, low-domain, origin-inside}
 use Rattle.promise.proofs.Halves.{halves-ascending, halves-grid, halves-some}
@@ -87,7 +87,7 @@ module _ (S : Query) (H : HasKernel S) (deep : S .deepest ≤ 20) where
   unfolding corner
   first-recorded k b l L =
       record {
-        no-earlier = λ m d close. not-before k (b .t) m (b ∷ l) (le-refl (b .t), L .ascending .0) (L .cover m d close);
+        no-earlier = λ m d close. not-before k (b .t) m (b ∷ l) (le-refl (b .t), later-t b l (L .ascending .0)) (L .cover m d close);
         domain = low-domain S k b deep (L .shallow) (L .grid .0 .0) (L .grid .0 .1);
         size = low-size S k b;
         sides = (low-sides (b .t) (L .shallow .t), (low-sides (b .u) (L .shallow .u), low-sides (b .v) (L .shallow .v)));

@@ -1,26 +1,17 @@
--- Lists of boxes: picked, changed one by one and merged they keep what holds of every box, what holds of some box, and the ascending order of t.
-use mathlib.Core.Path.{subst}
+-- Lists of boxes: picked, changed one by one and merged they keep what holds of every box, what holds of some box, and the ascending order.
 use mathlib.Core.Logic.{_⊎_, inl, inr, ⊎-map}
-use mathlib.Core.Bool.{Bool, true, false, cond, not, _&&_, _||_}
+use mathlib.Core.Bool.{Bool, true, false, cond, not}
 use mathlib.Core.List.{List, [], _∷_, map}
 use Prim.Native.Nat.{ℕ, _≤_}
-use native.Mathlib.Nat.{le-trans, le-refl, le-of-lt}
-use lib.Dec.{T, leb, ltb, eqb, ltb→lt, nltb→le, eqb→eq}
+use lib.Dec.{T}
 pub use Rattle.promise.specs.Why.{Some}
+pub use Rattle.promise.specs.Order.{Every, Before, Ascending}
 use Rattle.rules.specs.Search.{Box, those, notAfter, takeIn, merge}
-
-abbrev pub Every : (Box → Type 0) → List Box → Type 0
-Every P [] = Unit
-Every P (b ∷ bs) = P b × Every P bs
+use Rattle.promise.proofs.Before.{Apart, before-trans, before-t, not-after-before, after-before}
 
 -- every t index is n or more
 abbrev pub From : ℕ → List Box → Type 0
 From n = Every (λ b. n ≤ b .t)
-
--- t indices ascend
-abbrev pub Ascending : List Box → Type 0
-Ascending [] = Unit
-Ascending (b ∷ bs) = From (b .t) bs × Ascending bs
 
 pub every-weaken : {P Q : Box → Type 0} → ((b : Box) → P b → Q b) → (l : List Box) → Every P l → Every Q l
 every-weaken f [] h = tt
@@ -60,7 +51,7 @@ those-ascending f [] h = tt
 those-ascending f (b ∷ bs) h = go (f b) (those-ascending f bs (h .1))
   where
     go : (c : Bool) → Ascending (those f bs) → Ascending (cond c (b ∷ those f bs) (those f bs))
-    go true s = (every-weaken (λ x g. g .0) (those f bs) (those-every (λ x. b .t ≤ x .t) f bs (h .0)), s)
+    go true s = (every-weaken (λ x g. g .0) (those f bs) (those-every (Before b) f bs (h .0)), s)
     go false s = s
 
 -- ---- each changed
@@ -69,9 +60,13 @@ pub map-every : (P Q : Box → Type 0) (g : Box → Box) → ((b : Box) → P b 
 map-every P Q g f [] h = tt
 map-every P Q g f (b ∷ bs) h = (f b (h .0), map-every P Q g f bs (h .1))
 
-pub map-ascending : (g : Box → Box) → ((a b : Box) → a .t ≤ b .t → g a .t ≤ g b .t) → (l : List Box) → Ascending l → Ascending (map g l)
+pub map-all : (Q : Box → Type 0) (g : Box → Box) → ((b : Box) → Q (g b)) → (l : List Box) → Every Q (map g l)
+map-all Q g f [] = tt
+map-all Q g f (b ∷ bs) = (f b, map-all Q g f bs)
+
+pub map-ascending : (g : Box → Box) → ((a b : Box) → Before a b → Before (g a) (g b)) → (l : List Box) → Ascending l → Ascending (map g l)
 map-ascending g up [] h = tt
-map-ascending g up (b ∷ bs) h = (map-every (λ x. b .t ≤ x .t) (λ x. g b .t ≤ x .t) g (λ x. up b x) bs (h .0), map-ascending g up bs (h .1))
+map-ascending g up (b ∷ bs) h = (map-every (Before b) (Before (g b)) g (λ x. up b x) bs (h .0), map-ascending g up bs (h .1))
 
 -- some box has one of two changed that is such
 pub map-some : (P Q : Box → Type 0) (f g : Box → Box) → ((b : Box) → P b → Q (f b) ⊎ Q (g b)) → (l : List Box) → Some P l → Some Q (map f l) ⊎ Some Q (map g l)
@@ -129,49 +124,32 @@ merge-some P (x ∷ xs) ys (inl (inl p)) = take-some P x (merge xs) ys (λ zs h.
 merge-some P (x ∷ xs) ys (inl (inr q)) = take-some P x (merge xs) ys (λ zs h. merge-some P xs zs (inr h)) (inr (inl (λ zs. merge-some P xs zs (inl q))))
 merge-some P (x ∷ xs) ys (inr w) = take-some P x (merge xs) ys (λ zs h. merge-some P xs zs (inr h)) (inr (inr w))
 
-not-after-le : (x y : Box) → T (notAfter x y) → x .t ≤ y .t
-unfolding notAfter
-not-after-le x y t =
-    go (ltb (x .t) (y .t)) (eqb (x .t) (y .t)) (λ h. le-of-lt (ltb→lt (x .t) (y .t) h)) (λ h. subst (λ (n : ℕ). x .t ≤ n) (eqb→eq (x .t) (y .t) h) (le-refl (x .t))) t
-  where
-    rest : Bool
-    rest = ltb (x .u) (y .u) || eqb (x .u) (y .u) && leb (x .v) (y .v)
+-- from the box b on, no t index is less
+pub later-t : (b : Box) (l : List Box) → Every (Before b) l → From (b .t) l
+later-t b = every-weaken (λ x h. before-t b x h)
 
-    go : (l e : Bool) → (T l → x .t ≤ y .t) → (T e → x .t ≤ y .t) → T (l || e && rest) → x .t ≤ y .t
-    go true e f g s = f tt
-    go false true f g s = g tt
-    go false false f g s = absurd s
+before-every : {a b : Box} (l : List Box) → Before a b → Every (Before b) l → Every (Before a) l
+before-every l w = every-weaken (λ x. before-trans w) l
 
-after-le : (x y : Box) → T (not (notAfter x y)) → y .t ≤ x .t
-unfolding notAfter
-after-le x y t = go (ltb (x .t) (y .t)) (λ h. nltb→le (x .t) (y .t) h) t
-  where
-    rest : Bool
-    rest = eqb (x .t) (y .t) && (ltb (x .u) (y .u) || eqb (x .u) (y .u) && leb (x .v) (y .v))
+-- two ascending lists, such that no box of the one is a box of the other
+module _ (P Q : Box → Type 0) (apart : (x y : Box) → P x → Q y → Apart x y) where
+  take-ascending : (x : Box) (xs : List Box)
+      → P x
+      → Every (Before x) xs
+      → ((zs : List Box) → Every Q zs → Ascending zs → Ascending (merge xs zs))
+      → (ys : List Box) → Every Q ys → Ascending ys → Ascending (takeIn x (merge xs) ys)
+  unfolding takeIn
+  take-ascending x xs p h s [] o g = (merge-every (Before x) xs [] h tt, s [] tt tt)
+  take-ascending x xs p h s (y ∷ ys) o g =
+      go (notAfter x y) (not-after-before x y (apart x y p (o .0))) (after-before x y) (take-ascending x xs p h s ys (o .1) (g .1))
+    where
+      go : (c : Bool) → (T c → Before x y) → (T (not c) → Before y x)
+          → Ascending (takeIn x (merge xs) ys)
+          → Ascending (cond c (x ∷ merge xs (y ∷ ys)) (y ∷ takeIn x (merge xs) ys))
+      go true a b r = (merge-every (Before x) xs (y ∷ ys) h (a tt, before-every ys (a tt) (g .0)), s (y ∷ ys) o g)
+      go false a b r = (take-every (Before y) x (merge xs) (b tt) (λ zs. merge-every (Before y) xs zs (before-every xs (b tt) h)) ys (g .0), r)
 
-    go : (l : Bool) → (T (not l) → y .t ≤ x .t) → T (not (l || rest)) → y .t ≤ x .t
-    go true f s = absurd s
-    go false f s = f tt
-
-later-from : {n k : ℕ} (l : List Box) → n ≤ k → From k l → From n l
-later-from l h = every-weaken (λ b g. le-trans h g) l
-
-take-ascending : (x : Box) (rest : List Box → List Box)
-    → ((n : ℕ) → n ≤ x .t → (zs : List Box) → From n zs → From n (rest zs))
-    → ((zs : List Box) → Ascending zs → Ascending (rest zs))
-    → (ys : List Box) → Ascending ys → Ascending (takeIn x rest ys)
-unfolding takeIn
-take-ascending x rest f s [] g = (f (x .t) (le-refl (x .t)) [] tt, s [] tt)
-take-ascending x rest f s (y ∷ ys) g = go (notAfter x y) (λ h. not-after-le x y h) (λ h. after-le x y h) (take-ascending x rest f s ys (g .1))
-  where
-    go : (c : Bool) → (T c → x .t ≤ y .t) → (T (not c) → y .t ≤ x .t)
-        → Ascending (takeIn x rest ys)
-        → Ascending (cond c (x ∷ rest (y ∷ ys)) (y ∷ takeIn x rest ys))
-    go true a b r = (f (x .t) (le-refl (x .t)) (y ∷ ys) (a tt, later-from ys (a tt) (g .0)), s (y ∷ ys) g)
-    go false a b r = (take-every (λ z. y .t ≤ z .t) x rest (b tt) (λ zs h. f (y .t) (b tt) zs h) ys (g .0), r)
-
-pub merge-ascending : (xs ys : List Box) → Ascending xs → Ascending ys → Ascending (merge xs ys)
-unfolding merge
-merge-ascending [] ys f g = g
-merge-ascending (x ∷ xs) ys f g =
-    take-ascending x (merge xs) (λ n h zs k. merge-every (λ b. n ≤ b .t) xs zs (later-from xs h (f .0)) k) (λ zs k. merge-ascending xs zs (f .1) k) ys g
+  pub merge-ascending : (xs ys : List Box) → Every P xs → Every Q ys → Ascending xs → Ascending ys → Ascending (merge xs ys)
+  unfolding merge
+  merge-ascending [] ys p o f g = g
+  merge-ascending (x ∷ xs) ys p o f g = take-ascending x xs (p .0) (f .0) (λ zs w. merge-ascending xs zs (p .1) w (f .1)) ys o g

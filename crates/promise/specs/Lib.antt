@@ -3,3 +3,4 @@ pub mod Promise
 pub mod OldRules
 pub mod Bodies
 pub mod Why
+pub mod Order

@@ -22,7 +22,8 @@ use Rattle.little.specs.Word.{length-word, word-at}
 use Rattle.little.specs.Stands.{stands-there}
 use Rattle.queries.specs.Sizes.{size-zero, size-suc, few-size}
 use Rattle.queries.specs.Opening.{Holds, opened-records, reach-index, reach-good}
-use Rattle.queries.specs.RoundTrip.{Held, length-record, record-drop, front}
+use Rattle.queries.specs.Held.{Held}
+use Rattle.queries.specs.RoundTrip.{length-record, record-drop, front}
 
 -- ---- a trailer
 open-good : (form : Form) (s : List ℕ) (t n : ℕ) → t + 16 ≡ length s → stands s t (form .mark) ≡ true → stands s (t + 4) (editionBytes form) ≡ true
@@ -157,18 +158,18 @@ module _ (edition : ℕ) (free : List ℕ) (rs : List Record) (is : isEdition ed
   unfolding fileBytes
   file-record k h = record-in edition rs k free (trailerBytes (queryForm edition) (length rs)) all h
 
-  opens : Holds (fileForm (fileBytes edition free rs)) (fileBytes edition free rs) edition (length free) (length rs)
-  opens = opened-records (fileForm (fileBytes edition free rs)) (fileBytes edition free rs) edition (length free) (length rs) file-opens
+  pub file-holds : Holds (fileForm (fileBytes edition free rs)) (fileBytes edition free rs) edition (length free) (length rs)
+  file-holds = opened-records (fileForm (fileBytes edition free rs)) (fileBytes edition free rs) edition (length free) (length rs) file-opens
 
   pub file-fetch : (k : ℕ) → k < length rs → fetched (fileBytes edition free rs) k ≡ record { refusal = recordRefusal (getD rs k noRecord); query = getD rs k noRecord }
   unfolding fetched fetchUnless
   file-fetch k h =
       let s = fileBytes edition free rs in
-      rw (reach-good s k (opens .none) (omega (arith, opens .counts)), ← opens .starts, file-edition, file-record k h)
+      rw (reach-good s k (file-holds .none) (omega (arith, file-holds .counts)), ← file-holds .starts, file-edition, file-record k h)
 
   pub file-past : (k : ℕ) → length rs ≤ k → fetched (fileBytes edition free rs) k ≡ record { refusal = 13; query = noRecord }
   unfolding fetched fetchUnless
-  file-past k h = rw (reach-index (fileBytes edition free rs) k (opens .none) (omega (arith, opens .counts)))
+  file-past k h = rw (reach-index (fileBytes edition free rs) k (file-holds .none) (omega (arith, file-holds .counts)))
 
 -- records and a trailer put one behind another up to a buffer's end are a file of them
 pub written-file : (edition : ℕ) (s : List ℕ) (at : ℕ) (rs : List Record) → AllHeld edition rs → at + recordSize edition * length rs + 16 ≡ length s

@@ -1,22 +1,26 @@
 -- A file that opens is one of free bytes, its records and its trailer: read and written back it is the same bytes.
 --     trailer-same    the last 16 bytes of a file that opens are the trailer of its count
 --     file-same       the bytes before the first record, the records that stand there and a trailer are the file
--- Of either edition. Assumes nothing.
-use Prim.Native.Nat.{ℕ, zero, suc, _+_, _-_, _*_, _≤_}
+--     same-file       no two lists of records give the same bytes: these say the edition, the records and the free bytes before them
+-- Of every edition. Assumes nothing.
+use Prim.Native.Nat.{ℕ, zero, suc, _+_, _-_, _*_, _≤_, _<_}
 use mathlib.Core.Path.{_≡_, refl, sym, ap, _∙_}
-use mathlib.Core.List.{List, [], _∷_, _++_}
+use mathlib.Core.Bool.{true}
+use mathlib.Core.List.{List, [], _∷_, _++_, append-assoc}
 use native.Mathlib.Omega.{arith}
-use lib.ListN.{length, take, drop, take-append-drop, length-drop}
-use lib.Seq.{take-add, drop-drop, take-all}
+use lib.ListN.{length, getD, take, drop, take-append-drop, length-drop}
+use lib.Seq.{take-add, take-at, drop-drop, take-all, ext-getD}
 use Rattle.rules.specs.declared.Record.{Record}
 use Rattle.rules.specs.declared.Form.{Form}
+use Rattle.rules.specs.declared.Fetched.{Fetched}
 use Rattle.rules.specs.declared.Opened.the-variants.{Records}
-use Rattle.rules.specs.QueryFile.{wordBytes, isWide, recordSize, recordAt, queryForm, fileForm, editionBytes, trailerBytes, recordsBytes, fileBytes, trailerPlace, recordCount, openRefusal, opened}
+use Rattle.rules.specs.QueryFile.{wordBytes, isEdition, isWide, recordSize, recordAt, queryForm, editionOf, fileForm, editionBytes, trailerBytes, recordsBytes, fileBytes, trailerPlace, backPointer, recordCount, openRefusal, opened, noRecord, fetched}
 use Rattle.little.specs.Word.{Bytes, word-same}
 use Rattle.little.specs.Stands.{stands-bytes}
 use Rattle.queries.specs.Sizes.{size-zero, size-suc}
 use Rattle.queries.specs.Opening.{opens, opened-records}
 use Rattle.queries.specs.RoundTrip.{record-bytes}
+use Rattle.queries.specs.Files.{AllHeld, file-holds, file-fetch}
 
 -- so many records of an edition from `at` on
 unfoldable pub recordsAt : ℕ → List ℕ → ℕ → ℕ → List Record
@@ -81,3 +85,35 @@ file-same s edition place n b e =
     (λ i. take place s ++ r i ++ l i)
     ∙ ap (λ (x : List ℕ). x ++ drop (place + size) s) (sym (take-add place size s))
     ∙ take-append-drop (place + size) s
+
+-- ---- no two lists of records give the same bytes
+
+-- what a file of an edition can hold
+pub record Listed (edition : ℕ) (rs : List Record) : Type 0 where
+  pub is : isEdition edition ≡ true
+  pub all : AllHeld edition rs
+  pub few : length rs ≤ 4096
+
+free-of : (edition : ℕ) (free : List ℕ) (rs : List Record) → take (length free) (fileBytes edition free rs) ≡ free
+unfolding fileBytes
+free-of edition free rs =
+    let tail = trailerBytes (queryForm edition) (length rs) in
+    ap (take (length free)) (append-assoc free (recordsBytes edition rs) tail) ∙ take-at free (recordsBytes edition rs ++ tail) (length free) refl
+
+pub same-file : (edition edition′ : ℕ) (free free′ : List ℕ) (rs rs′ : List Record)
+    → Listed edition rs → Listed edition′ rs′
+    → fileBytes edition free rs ≡ fileBytes edition′ free′ rs′
+    → (edition ≡ edition′) × (free ≡ free′) × (rs ≡ rs′)
+same-file edition edition′ free free′ rs rs′ l l′ e =
+    let h = file-holds edition free rs (l .is) (l .all) (l .few) in
+    let h′ = file-holds edition′ free′ rs′ (l′ .is) (l′ .all) (l′ .few) in
+    let same : edition ≡ edition′ = h .names ∙ ap editionOf e ∙ sym (h′ .names) in
+    let place : length free ≡ length free′ = h .starts ∙ ap (λ (x : List ℕ). trailerPlace x - backPointer x) e ∙ sym (h′ .starts) in
+    let count : length rs ≡ length rs′ = h .counts ∙ ap recordCount e ∙ sym (h′ .counts) in
+    let before : free ≡ free′ = sym (free-of edition free rs) ∙ (λ i. take (place i) (e i)) ∙ free-of edition′ free′ rs′ in
+    let one : (k : ℕ) → k < length rs → getD rs k noRecord ≡ getD rs′ k noRecord =
+    λ k b. ap (λ (f : Fetched). f .query)
+    (sym (file-fetch edition free rs (l .is) (l .all) (l .few) k b)
+    ∙ ap (λ (x : List ℕ). fetched x k) e
+    ∙ file-fetch edition′ free′ rs′ (l′ .is) (l′ .all) (l′ .few) k (omega arith)) in
+    (same, before, ext-getD noRecord rs rs′ count one)

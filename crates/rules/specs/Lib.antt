@@ -10,3 +10,4 @@ pub mod Bodies
 pub mod BodyExamples
 pub mod Why
 pub mod WhyExamples
+pub mod QueryFileExamples

@@ -14,7 +14,7 @@ use Rattle.rules.specs.declared.Answer.{Answer}
 use Rattle.rules.specs.Search.{Query, Box, Depths, side, low, survives, corner, near, full, Checked, answered, through, keep, firstSurvivor, oneBox, check, afterLevel}
 use Rattle.rules.specs.Why.{isBefore}
 use Rattle.promise.specs.Why.{Some, counted}
-use Rattle.promise.proofs.Lists.{From, Ascending}
+use Rattle.promise.proofs.Lists.{From, Ascending, later-t}
 use Rattle.promise.proofs.First.{Outcome, early, none, met, floor, spent, some}
 
 abbrev pub Among : Box → List Box → Type 0
@@ -50,7 +50,7 @@ module _ (S : Query) (at : Three) where
 
     pub first-low : (x : Box) (xs : List Box) → Ascending (x ∷ xs) → Among b (x ∷ xs) → low (k .t) (x .t) ≤ at .t
     first-low x xs a (inl e) = subst (λ (y : Box). low (k .t) (y .t) ≤ at .t) (sym e) starts
-    first-low x xs a (inr w) = from-low (x .t) xs (a .0) w
+    first-low x xs a (inr w) = from-low (x .t) xs (later-t x xs (a .0)) w
 
     -- ---- it is among those that are counted
 
