@@ -53,6 +53,16 @@ queryAlone w a b i j k = asked w a b i j (1 + k) (askAt k) ∷ []
 abbrev pub rowQueries : Terms → Body → Body → ℕ → ℕ → List Asked
 rowQueries w a b i n = eachFrom 0 n (λ j. pairQueries w a b i j)
 
+-- each of them heard, by the positions
+abbrev pub QueryHeard : Terms → List ℤ → List ℤ → List ℤ → List ℤ → ℕ → ℕ → ℕ → List ℕ → List ℕ → BodyAnswer → BodyAnswer → Type 0
+QueryHeard w a0 a1 b0 b1 i j k = Heard 1 (queryAlone w (positions a0 a1) (positions b0 b1) i j k)
+
+abbrev pub PairHeard : Terms → List ℤ → List ℤ → List ℤ → List ℤ → ℕ → ℕ → List ℕ → List ℕ → BodyAnswer → BodyAnswer → Type 0
+PairHeard w a0 a1 b0 b1 i j = Heard 15 (pairQueries w (positions a0 a1) (positions b0 b1) i j)
+
+abbrev pub RowHeard : Terms → List ℤ → List ℤ → List ℤ → List ℤ → ℕ → ℕ → List ℕ → List ℕ → BodyAnswer → BodyAnswer → Type 0
+RowHeard w a0 a1 b0 b1 i n = Heard 3840 (rowQueries w (positions a0 a1) (positions b0 b1) i n)
+
 pub record OfQuery (w : Terms) (a0 a1 b0 b1 : List ℤ) (i j k : ℕ) (queue : List ℕ) (sofar : BodyAnswer) : Type 0 where
   pub start : There a0 b0 i j
   pub end : There a1 b1 i j

@@ -2,10 +2,10 @@
 ghost use mathlib.Core.Path.{_≡_};
 ghost use lib.ListN.{length};
 ghost use Rattle.rules.specs.declared.BodyAnswer.the-variants.{Clear};
-ghost use Rattle.rules.specs.Bodies.{isBody, pairQueries, queriesOf, bodyRefusal};
+ghost use Rattle.rules.specs.Bodies.{isBody, queriesOf, bodyRefusal};
 ghost use Rattle.bodies.specs.Asking.{body};
 ghost use Rattle.bodies.specs.Telling.{Answered, Tells};
-ghost use Rattle.bodies.specs.Walk.{positions, OfQuery, OfPair, OfRow, OfBodies, Heard, queryAlone, rowQueries};
+ghost use Rattle.bodies.specs.Walk.{OfQuery, OfPair, OfRow, OfBodies, Heard, QueryHeard, PairHeard, RowHeard};
 use answers::numbers;
 use apart::next_near;
 use apart::reach_of;
@@ -80,7 +80,7 @@ fn hear_query(
     sofar: BodyAnswer,
 ) -> BodyAnswer
     requires { ⌜ OfQuery w (now a0) (now a1) (now b0) (now b1) i j k (now queue) sofar ⌝ }
-    ensures { λ r. ⌜ Heard 1 (queryAlone w (positions (now (a0 .entry)) (now (a1 .entry))) (positions (now (b0 .entry)) (now (b1 .entry))) i j k) (now (queue .entry)) (now (queue .exit)) sofar r ⌝ }
+    ensures { λ r. ⌜ QueryHeard w (now (a0 .entry)) (now (a1 .entry)) (now (b0 .entry)) (now (b1 .entry)) i j k (now (queue .entry)) (now (queue .exit)) sofar r ⌝ }
 {
     let answer = search_accepted(query_at(w, a0, a1, b0, b1, i, j, k), queue);
     heard(sofar, i as u32, j as u32, (1 + k) as u32, numbers(answer))
@@ -99,7 +99,7 @@ fn hear_pair(
     first: BodyAnswer,
 ) -> BodyAnswer
     requires { ⌜ OfPair w (now a0) (now a1) (now b0) (now b1) i j (now queue) first ⌝ }
-    ensures { λ r. ⌜ Heard 15 (pairQueries w (positions (now (a0 .entry)) (now (a1 .entry))) (positions (now (b0 .entry)) (now (b1 .entry))) i j) (now (queue .entry)) (now (queue .exit)) first r ⌝ }
+    ensures { λ r. ⌜ PairHeard w (now (a0 .entry)) (now (a1 .entry)) (now (b0 .entry)) (now (b1 .entry)) i j (now (queue .entry)) (now (queue .exit)) first r ⌝ }
 {
     let mut sofar = first;
     let mut k = 0;
@@ -123,7 +123,7 @@ fn hear_row(
     first: BodyAnswer,
 ) -> BodyAnswer
     requires { ⌜ OfRow w (now a0) (now a1) i n (now b0) (now b1) (now queue) first ⌝ }
-    ensures { λ r. ⌜ Heard 3840 (rowQueries w (positions (now (a0 .entry)) (now (a1 .entry))) (positions (now (b0 .entry)) (now (b1 .entry))) i n) (now (queue .entry)) (now (queue .exit)) first r ⌝ }
+    ensures { λ r. ⌜ RowHeard w (now (a0 .entry)) (now (a1 .entry)) (now (b0 .entry)) (now (b1 .entry)) i n (now (queue .entry)) (now (queue .exit)) first r ⌝ }
 {
     let reach = reach_of(a0, a1, i);
     let mut j = next_near(w, reach, b0, b1, 0, n);

@@ -7,7 +7,8 @@ use native.Mathlib.Omega.{arith}
 use lib.ListN.{length}
 use Rattle.rules.specs.declared.Record.{Record}
 use Rattle.rules.specs.QueryFile.{isWide, sizeBy, recordSize, recordAt, recordBytes, put}
-use Rattle.queries.specs.RoundTrip.{Held, read-back}
+use Rattle.queries.specs.Held.{Held}
+use Rattle.queries.specs.RoundTrip.{read-back}
 use Rattle.answers.proofs.Walking.{alone, known}
 use borrow.Author.Needs.{needs}
 use Rattle.answers.proofs.answer_record.Statement.{statement}
