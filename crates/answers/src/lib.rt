@@ -7,7 +7,7 @@ ghost use lib.ListN.{length};
 ghost use Rattle.rules.specs.Answers.{told, queueAfter};
 ghost use Rattle.rules.specs.QueryFile.{isWide, recordSize, put};
 ghost use Rattle.rules.specs.Search.{search};
-ghost use Rattle.queries.specs.RoundTrip.{Held};
+ghost use Rattle.queries.specs.Held.{Held};
 ghost use Rattle.answers.specs.Eight.{eight};
 ghost use Rattle.answers.specs.Step.{isAnswered, Answering, Answered};
 ghost use Rattle.answers.specs.Walk.{tells, tellsFrom, queueFrom, One, Every, Counted};

@@ -4,7 +4,7 @@ ghost use mathlib.Core.Bool.{true};
 ghost use Prim.Native.Nat.{_≤_};
 ghost use lib.ListN.{length, take};
 ghost use Rattle.queries.specs.Coordinates.{Each};
-ghost use Rattle.queries.specs.RoundTrip.{Held};
+ghost use Rattle.queries.specs.Held.{Held};
 ghost use Rattle.controller.specs.Given.{recordOf, rangeOf};
 use rules::Record;
 
