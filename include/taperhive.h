@@ -31,14 +31,20 @@
  *   a box were measured on an Arm Neoverse-V1 (docs/BENCH.md). That is not promised.
  *
  * UNITS
- *   Lengths: 1/8 mm. t, u, v: 1/1,048,576 parts of the step and of the bodies.
+ *   Lengths: 1/8 mm. t, u, v and a cap: 1/1,048,576 parts of the step and of the bodies.
+ *
+ * CAP
+ *   How much of the step a pair is checked for: 0 the whole step, 1 to 1,048,576 a last moment. A
+ *   record of editions 2 and 3 has it at byte 28; one of edition 1 has none, and is for the whole step.
  *
  * WHAT IS TOLD of a pair are eight numbers: id, word, t, u, v, excess, count, refusal number.
- *   word     TAPERHIVE_REFUSED, _MET, _CLEAR, _SPENT, _ROOM or _FLOOR
+ *   word     TAPERHIVE_REFUSED, _MET, _CLEAR, _SPENT, _ROOM or _FLOOR. After _CLEAR there is no contact
+ *            up to and including the cap; after the last four there is none before t, and t is not
+ *            beyond the cap
  *   t, u, v  the recorded moment and place (0 for CLEAR and a refused pair)
  *   excess   how far F is beyond the separation there, on the axis where that is most, rounded up
  *   count    boxes checked
- *   refusal  1 to 7 for a refused pair, else 0
+ *   refusal  1 to 7 or 22 for a refused pair, else 0
  * Numbers that an answer does not carry are 0.
  *
  * EDITIONS
@@ -49,8 +55,11 @@
  *     3         128 bytes   one for each axis   -2,097,152 to 2,097,152   64 to 1,048,576
  *   So 1 and 2 have the shorter range, 131 m each way from the origin, and 3 the longer, 262 m. 3 COORD
  *   and 5 TOLERANCE go by the edition of the record's file. Separation (0 to 65,536), budget (1 to
- *   1,000,000) and queue (2 to 1,048,576 words) have one range in all editions. t, u and v that are
- *   told of edition 3 are even.
+ *   1,000,000), cap (0 to 1,048,576) and queue (2 to 1,048,576 words) have one range in all editions.
+ *   t, u and v that are told of edition 3 are even; a cap may be odd.
+ *
+ * REFUSALS OF A RECORD: the first that is due of 1, 2, 3, 4, 5, 6, 22 and, where it is searched, 7. So
+ * 22 CAP, a cap above 1,048,576, stands behind 6 BUDGET and before 7 QUEUE. 2 FLAGS has no part in it.
  *
  * REFUSALS OF A FILE: 8 to 12, and 13 of the record number; 14 where fewer numbers are lent than are to
  * be told; the lowest. Then nothing that was lent is changed. taperhive_why gives more, said there. 10
@@ -85,7 +94,8 @@ enum {
     TAPERHIVE_REFUSAL_QUEUE, TAPERHIVE_REFUSAL_SHORT, TAPERHIVE_REFUSAL_MARK,
     TAPERHIVE_REFUSAL_EDITION, TAPERHIVE_REFUSAL_COUNT, TAPERHIVE_REFUSAL_BACK,
     TAPERHIVE_REFUSAL_INDEX, TAPERHIVE_REFUSAL_SPACE,
-    TAPERHIVE_REFUSAL_BODY = 21, TAPERHIVE_REFUSAL_OUTSIDE = 23, TAPERHIVE_REFUSAL_NOT_RULED_OUT = 24
+    TAPERHIVE_REFUSAL_BODY = 21, TAPERHIVE_REFUSAL_CAP = 22, TAPERHIVE_REFUSAL_OUTSIDE = 23,
+    TAPERHIVE_REFUSAL_NOT_RULED_OUT = 24
 };
 
 /* Kinds of pairs, and the flag that negates y of the second body's points. */
@@ -100,6 +110,7 @@ enum {
     TAPERHIVE_MOST_TOLERANCE = 1048576,
     TAPERHIVE_MOST_SEPARATION = 65536,
     TAPERHIVE_MOST_BUDGET = 1000000,
+    TAPERHIVE_MOST_CAP = 1048576,
     TAPERHIVE_LEAST_WORDS = 2, TAPERHIVE_MOST_WORDS = 1048576,
     TAPERHIVE_MOST_RECORDS = 4096,
     TAPERHIVE_MOST_TRIANGLES = 256
@@ -143,11 +154,10 @@ uint32_t taperhive_count(const uint8_t *file, size_t file_len, uint32_t *told, s
 
 /* One pair without a file, told as taperhive_answer tells a record, and the queue left as it does. The
  * edition says which range coordinates and tolerance have, and nothing else: with 1 too there are three
- * separations. points are 24 numbers: x, y, z of p, v1, v2, v3 or of p1, p2, p3, p4 at the start, then
- * of the same four at the end; of more the first 24 are read. cap is 0: no other number has a meaning
- * yet, and it is refused 2. Returns 0 for a refused pair too, which is told with its 1 to 7. Else 10
- * where the edition is not 1, 2 or 3; then 14 where there are fewer than 24 points' numbers or told has
- * fewer than eight; and nothing lent is changed. */
+ * separations and a cap. points are 24 numbers: x, y, z of p, v1, v2, v3 or of p1, p2, p3, p4 at the
+ * start, then of the same four at the end; of more the first 24 are read. Returns 0 for a refused pair
+ * too, which is told with its 1 to 7 or 22. Else 10 where the edition is not 1, 2 or 3; then 14 where
+ * there are fewer than 24 points' numbers or told has fewer than eight; and nothing lent is changed. */
 uint32_t taperhive_pair(uint8_t edition, uint8_t kind, uint8_t flags, uint32_t id,
                         uint32_t dx, uint32_t dy, uint32_t dz,
                         uint32_t tolerance, uint32_t budget, uint32_t cap,
@@ -166,10 +176,11 @@ uint32_t taperhive_pair(uint8_t edition, uint8_t kind, uint8_t flags, uint32_t i
  *           the separation all over the box
  *   side    0 below, 1 above: the side of the second body on which the first one is then
  * The lent queue is all zero then. Returns 0, or why nothing was told: 8 to 13 of the file and the
- * number, 1 to 6 of the record, 7 QUEUE, 23 OUTSIDE where the point is not in the domain (t, u, v at
- * most 1,048,576, and for vertex-face u + v too), 14 where told has fewer than nine numbers, and then
- * nothing lent is changed; last, 24 NOT RULED OUT where the search answers that moment or an earlier
- * one: told is as it was, and the queue is all zero, since the search has used it. */
+ * number, 1 to 6 and 22 of the record, 7 QUEUE, 23 OUTSIDE where the point is not in the domain (t, u,
+ * v at most 1,048,576, and for vertex-face u + v too) or t is beyond the record's cap, 14 where told
+ * has fewer than nine numbers, and then nothing lent is changed; last, 24 NOT RULED OUT where the
+ * search answers that moment or an earlier one: told is as it was, and the queue is all zero, since the
+ * search has used it. After CLEAR every point of the domain up to the cap has its box. */
 uint32_t taperhive_why(const uint8_t *file, size_t file_len, size_t n,
                        uint32_t t, uint32_t u, uint32_t v,
                        uint64_t *queue, size_t queue_len, uint32_t *told, size_t told_len);
@@ -180,12 +191,17 @@ uint32_t taperhive_why(const uint8_t *file, size_t file_len, size_t n,
  * x, y, z of its corners 1, 2, 3, once at the start and once at the end of the step. Separations,
  * tolerance and budget are those of every query; there is no flag. The edition says which range
  * coordinates and tolerance have, as for taperhive_pair.
+ * Each query takes the least time answered so far as its cap; until there is one it is asked for the
+ * whole step. A time of 0 ends the walk at once: no query behind the one that answers it is asked.
  * told's first eight numbers are written: word, t, triangle of A, triangle of B, query, excess, and the
- * sum of all counts in two numbers, the low 32 bits first.
+ * sum of the counts of the queries that were asked, with those caps, in two numbers, the low 32 bits
+ * first.
  *   word CLEAR where all are clear; else the word of the least time's holder: the first query in order
- *   that has that time
+ *   to answer that time. One behind it that answers it too does not take over
  *   t, excess    its own; triangles count from 0, queries from 1; all of them 0 for CLEAR
  *   in edition 3 t is even
+ * No query has a contact before t, or at all after CLEAR. With a larger budget or queue a walk that was
+ * SPENT or ROOM has other caps, and may answer an earlier t then.
  * The lent queue is all zero then. Returns 0, or why nothing was done and nothing lent was changed:
  * first 10 where the edition is not 1, 2 or 3; then 21 BODY where a body has not 1 to 256 triangles, or
  * some list not nine numbers a triangle; then the number 3 to 7 of the first refused query in order;
@@ -201,9 +217,10 @@ uint32_t taperhive_bodies(uint8_t edition, uint32_t dx, uint32_t dy, uint32_t dz
 /* A record from numbers, written from place `at` of out on, in edition 1, 2 or 3: 116, 128, 128 bytes,
  * and no other byte is changed. points and cap are those of taperhive_pair. Returns 0, or why nothing
  * was done and no byte was changed: first 14 where there are fewer than 24 points' numbers; then 1 to 6
- * of the record in that edition (4 for edition 1 also where the three separations differ); 10 for
- * another edition (up to there it has the shorter range); 14 where fewer bytes than the record's stand
- * from that place on, a place past the end included. */
+ * and 22 of the record in that edition (4 for edition 1 also where the three separations differ, 22 for
+ * edition 1 also where the cap is not 0, since its record has no place for one); 10 for another edition
+ * (up to there it has the shorter range); 14 where fewer bytes than the record's stand from that place
+ * on, a place past the end included. */
 uint32_t taperhive_write(uint8_t *out, size_t out_len, size_t at, uint8_t edition,
                          uint8_t kind, uint8_t flags, uint32_t id,
                          uint32_t dx, uint32_t dy, uint32_t dz,
@@ -211,9 +228,10 @@ uint32_t taperhive_write(uint8_t *out, size_t out_len, size_t at, uint8_t editio
                          const int32_t *points, size_t points_len);
 
 /* Record n of a file, written into another buffer from place `at` on, in edition 1, 2 or 3. Returns 0,
- * or why nothing was done and no byte was changed: 8 to 13 of the file and the number, 1 to 6 of the
- * record in the file's edition, then 1 to 6 of it in the edition to write (3 and 5 by that range, and 4
- * for edition 1 where the three separations differ), then 10 and 14 as taperhive_write gives them. */
+ * or why nothing was done and no byte was changed: 8 to 13 of the file and the number, 1 to 6 and 22 of
+ * the record in the file's edition, then 1 to 6 and 22 of it in the edition to write (3 and 5 by that
+ * range; for edition 1 also 4 where the three separations differ and 22 where the cap is not 0), then
+ * 10 and 14 as taperhive_write gives them. */
 uint32_t taperhive_copy(const uint8_t *file, size_t file_len, size_t n, uint8_t edition,
                         uint8_t *out, size_t out_len, size_t at);
 

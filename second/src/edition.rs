@@ -6,7 +6,7 @@ use crate::refusals::Refusal;
 pub enum Edition {
     /// One separation for all axes.
     One = 1,
-    /// A separation for each axis, and a word that is zero.
+    /// A separation for each axis, and a cap.
     Two = 2,
     /// Edition 2's record with the longer range.
     Three = 3,
@@ -42,7 +42,7 @@ impl Edition {
         }
     }
 
-    /// True where a record has a separation for each axis, and the word at 28.
+    /// True where a record has a separation for each axis, and a cap.
     pub fn is_by_axis(self) -> bool {
         self != Edition::One
     }

@@ -17,7 +17,7 @@ pub struct Opened {
     pub count: u32,
 }
 
-/// A refused fetch; refusals 1 to 6 know the record's id.
+/// A refused fetch; refusals 1 to 6 and 22 know the record's id.
 #[derive(Clone, Copy, Debug, PartialEq, Eq)]
 pub struct RefusedFetch {
     pub refusal: Refusal,
@@ -65,7 +65,7 @@ pub fn record_at(file: &[u8], n: u32) -> Result<(Record, Range), Refusal> {
     Ok((Record::from_bytes(edition, bytes), edition.range()))
 }
 
-/// Record n: refusals 8 to 13, then 1 to 6.
+/// Record n: refusals 8 to 13, then 1 to 6 and 22.
 pub fn fetch(file: &[u8], n: u32) -> Result<Record, RefusedFetch> {
     let found = record_at(file, n).map_err(|refusal| RefusedFetch { refusal, id: None });
     let (record, range) = found?;
@@ -74,7 +74,7 @@ pub fn fetch(file: &[u8], n: u32) -> Result<Record, RefusedFetch> {
     Ok(record)
 }
 
-/// Writes a record at a place: refusals 1 to 6, then 10, then 14.
+/// Writes a record at a place: refusals 1 to 6 and 22, then 10, then 14.
 pub fn write_record(
     buffer: &mut [u8],
     at: usize,

@@ -22,8 +22,8 @@ pub struct Record {
     pub separations: [u32; 3],
     pub tolerance: u32,
     pub budget: u32,
-    /// The word at 28 of editions 2 and 3; an edition 1 record has none and means zero.
-    pub spare: u32,
+    /// The word at 28 of editions 2 and 3: the last moment in 1/1,048,576 parts, 0 the whole step; an edition 1 record has none and means 0.
+    pub cap: u32,
     /// p, v1, v2, v3 or p1, p2, p3, p4 at t = 0.
     pub start: [Point; 4],
     /// The same points at t = 1.
@@ -42,10 +42,10 @@ impl Record {
 
     /// The record's bytes, little-endian, whatever the fields hold; edition 1 has room for x's separation only.
     pub fn bytes(&self, edition: Edition) -> Vec<u8> {
-        let Record { id, separations: [x, y, z], tolerance, budget, spare, .. } = *self;
+        let Record { id, separations: [x, y, z], tolerance, budget, cap, .. } = *self;
         let numbers = match edition {
             Edition::One => vec![id, x, tolerance, budget],
-            Edition::Two | Edition::Three => vec![id, x, y, z, tolerance, budget, spare],
+            Edition::Two | Edition::Three => vec![id, x, y, z, tolerance, budget, cap],
         };
         let mut bytes = vec![self.kind, self.flags, self.byte2, self.byte3];
         bytes.extend(numbers.into_iter().flat_map(u32::to_le_bytes));
@@ -57,7 +57,7 @@ impl Record {
     /// The record that an edition's bytes say, unchecked.
     pub fn from_bytes(edition: Edition, bytes: &[u8]) -> Record {
         let word = |at: usize| word_at(bytes, at);
-        let (separations, tolerance, budget, spare, from) = match edition {
+        let (separations, tolerance, budget, cap, from) = match edition {
             Edition::One => ([word(8); 3], word(12), word(16), 0, 20),
             Edition::Two | Edition::Three => {
                 ([8, 12, 16].map(word), word(20), word(24), word(28), 32)
@@ -74,7 +74,7 @@ impl Record {
             separations,
             tolerance,
             budget,
-            spare,
+            cap,
             start: points(from),
             end: points(from + 48),
         }

@@ -1,8 +1,9 @@
 //! Query files written from plain text, for people who make one by hand.
 //!
 //! A line is a record: kind, flags, id, separation, tolerance, budget, then x, y, z of the four points at the start and of the four at
-//! the end. Behind a line `edition 2` or `edition 3`, which stands before the records, a record has three separations. What stands behind a
-//! `#` is a remark. A number that a record has room for is written as it is said, refused or not.
+//! the end. Behind a line `edition 2` or `edition 3`, which stands before the records, a record has three separations, and a line `cap N` gives
+//! the records behind it that cap, until the next such line. What stands behind a `#` is a remark. A number that a record has room for is
+//! written as it is said, refused or not.
 
 use crate::edition::Edition;
 use crate::file::file_of;
@@ -41,6 +42,8 @@ pub fn write(text: &[u8]) -> Result<Vec<u8>, WrongLine> {
 #[derive(Default)]
 struct Said {
     edition: Option<Edition>,
+    /// Of the records to come.
+    cap: u32,
     records: Vec<Record>,
 }
 
@@ -56,7 +59,8 @@ impl Said {
         match words[..] {
             [] => {}
             ["edition", ..] => self.edition = Some(self.edition_of(&words[1..])?),
-            _ => self.records.push(record(self.edition(), &words)?),
+            ["cap", ..] => self.cap = self.cap_of(&words[1..])?,
+            _ => self.records.push(Record { cap: self.cap, ..record(self.edition(), &words)? }),
         }
         Ok(())
     }
@@ -75,13 +79,23 @@ impl Said {
             _ => Err(format!("an edition is one number, not {}", numbers.len())),
         }
     }
+
+    /// Of a line that says one.
+    fn cap_of(&self, numbers: &[&str]) -> Result<u32, String> {
+        if !self.edition().is_by_axis() {
+            return Err("a record of edition 1 has no cap".to_string());
+        }
+        check_whole(numbers)?;
+        match numbers {
+            [cap] => number("cap", cap),
+            _ => Err(format!("a cap is one number, not {}", numbers.len())),
+        }
+    }
 }
 
 /// The record of a line of numbers.
 fn record(edition: Edition, words: &[&str]) -> Result<Record, String> {
-    if let Some(word) = words.iter().find(|word| !is_whole(word)) {
-        return Err(format!("'{word}' is no whole number"));
-    }
+    check_whole(words)?;
     let separations = if edition.is_by_axis() { 3 } else { 1 };
     let must = 5 + separations + COORDINATES;
     if words.len() != must {
@@ -90,9 +104,6 @@ fn record(edition: Edition, words: &[&str]) -> Result<Record, String> {
     }
     let (head, points) = words.split_at(must - COORDINATES);
     let byte = |name: &str, word: &str| within(name, word, 0..=255).map(|byte| byte as u8);
-    let number = |name: &str, word: &str| {
-        within(name, word, 0..=i64::from(u32::MAX)).map(|number| number as u32)
-    };
     let separation = |axis: usize| number("separation", head[3 + axis.min(separations - 1)]);
     Ok(Record {
         kind: byte("kind", head[0])?,
@@ -103,10 +114,16 @@ fn record(edition: Edition, words: &[&str]) -> Result<Record, String> {
         separations: [separation(0)?, separation(1)?, separation(2)?],
         tolerance: number("tolerance", head[3 + separations])?,
         budget: number("budget", head[4 + separations])?,
-        spare: 0,
+        cap: 0,
         start: four_points(&points[..COORDINATES / 2])?,
         end: four_points(&points[COORDINATES / 2..])?,
     })
+}
+
+/// Whole numbers, whatever their sizes.
+fn check_whole(words: &[&str]) -> Result<(), String> {
+    let wrong = words.iter().find(|word| !is_whole(word));
+    wrong.map_or(Ok(()), |word| Err(format!("'{word}' is no whole number")))
 }
 
 /// Whatever its size.
@@ -120,6 +137,11 @@ fn is_whole(word: &str) -> bool {
 fn within(name: &str, word: &str, room: RangeInclusive<i64>) -> Result<i64, String> {
     let number = word.parse().ok().filter(|number| room.contains(number));
     number.ok_or(format!("{name} {word} is not from {} to {}", room.start(), room.end()))
+}
+
+/// A number of 32 bits unsigned.
+fn number(name: &str, word: &str) -> Result<u32, String> {
+    within(name, word, 0..=i64::from(u32::MAX)).map(|number| number as u32)
 }
 
 /// Four points of twelve numbers.

@@ -209,7 +209,7 @@ impl<'a> Search<'a> {
         Ok(())
     }
 
-    /// The next level: both halves of every survivor, but for those outside the face.
+    /// The next level: both halves of every survivor, but for those outside the face and those beyond the cap.
     fn split(&self, depths: [u32; 3], survivors: &[GridBox], differences: &[i128; 3]) -> Level {
         let parameter = split_parameter(depths, self.deepest, differences);
         let mut next = depths;
@@ -219,7 +219,7 @@ impl<'a> Search<'a> {
             for upper in [0, 1] {
                 let mut half = *survivor;
                 half[parameter] = 2 * half[parameter] + upper;
-                if !self.outside_face(next, &half) {
+                if !self.outside_face(next, &half) && !self.beyond_cap(next, &half) {
                     boxes.push(half);
                 }
             }
@@ -232,6 +232,12 @@ impl<'a> Search<'a> {
     fn outside_face(&self, depths: [u32; 3], grid_box: &GridBox) -> bool {
         self.record.kind == VERTEX_FACE
             && place(depths[1], grid_box[1]) + place(depths[2], grid_box[2]) > Q
+    }
+
+    /// Low t exceeds the cap; a cap of 0 is none.
+    fn beyond_cap(&self, depths: [u32; 3], grid_box: &GridBox) -> bool {
+        let cap = i128::from(self.record.cap);
+        cap != 0 && place(depths[0], grid_box[0]) > cap
     }
 
     /// The recorded corner with the count as it stands.

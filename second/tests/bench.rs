@@ -215,11 +215,15 @@ fn bodies_of_the_bench_are_far_apart_near_and_touching() {
             let bodies = class.bodies(256);
             let (code, told, _) = walked::<Fast>(&bodies, 4096);
             assert_eq!((bodies.edition, code, told[7]), (edition.number(), 0, 0), "{}", class.name);
-            (told[0], told[6])
+            (told[0], told[6], told[1])
         });
-        assert_eq!(far, (2, queries));
+        assert_eq!(far, (2, queries, 0));
         assert!(near.0 == 2 && near.1 > queries + queries / 10, "{near:?}");
-        assert!(touching.0 != 2 && touching.1 > queries + queries / 4, "{touching:?}");
+        // Not at once, or the walk would end there.
+        assert!(
+            touching.0 != 2 && touching.1 > queries + queries / 20 && touching.2 > 0,
+            "{touching:?}"
+        );
     }
 }
 

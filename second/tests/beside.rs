@@ -8,7 +8,7 @@ use second::gen::flavours;
 use std::fs;
 use std::path::PathBuf;
 use std::time::Duration;
-use stub::{assert_reported, library, ranged_library, ranges, Fault, FAULTS};
+use stub::{assert_reported, capped_library, caps, library, ranged_library, ranges, Fault, FAULTS};
 
 const SEEDS: std::ops::Range<u64> = 1..3;
 
@@ -35,7 +35,7 @@ fn reported(library: Library, cases: &[Case]) -> usize {
 #[test]
 fn right_library_passes_and_wrong_ones_are_reported() {
     let cases = cases();
-    let found = each!(library, &cases, 0 1 2 3 4 5 6 7 8 9 10 11 12 13 14 15 16 17 18 19 20);
+    let found = each!(library, &cases, 0 1 2 3 4 5 6 7 8 9 10 11 12 13 14 15 16 17 18 19);
     assert_reported(FAULTS, &found, &[Fault::None], ENOUGH);
 }
 
@@ -44,6 +44,13 @@ fn wrong_ranges_are_reported() {
     let cases = cases();
     let found = each!(ranged_library, &cases, 0 1 2 3 4 5 6 7 8 9 10 11 12);
     assert_reported(ranges::FAULTS, &found, &[ranges::Fault::None], ENOUGH);
+}
+
+#[test]
+fn wrong_caps_are_reported() {
+    let cases = cases();
+    let found = each!(capped_library, &cases, 0 1 2 3 4 5 6 7 8 9 10 11 12 13);
+    assert_reported(caps::FAULTS, &found, &[caps::Fault::None], ENOUGH);
 }
 
 #[test]

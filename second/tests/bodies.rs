@@ -68,7 +68,7 @@ fn right_library_passes_and_wrong_ones_are_reported() {
     let cases = cases();
     let found = each!(bodies_library, &cases,
         0 1 2 3 4 5 6 7 8 9 10 11 12 13 14 15 16 17 18 19 20 21 22 23 24 25 26 27 28 29 30 31 32 33 34 35 36 37 38
-        39 40 41 42 43 44 45 46 47);
+        39 40 41 42 43 44 45 46 47 48 49 50 51 52 53 54 55 56 57);
     // No search of a few thousand queries comes to a sum of more than 32 bits.
     assert_reported(FAULTS, &found, &[Fault::None, Fault::SumCutTo32Bits], ENOUGH);
 }

@@ -69,7 +69,8 @@ fn why_prints_one_line() {
     let outside = call(&["why", "0", "0", "524288", "524289"], &close).unwrap();
     assert_eq!(
         outside,
-        "REFUSED 23 not in the domain: t, u and v are at most 1048576, and for a face so is u + v\n"
+        "REFUSED 23 not in the domain (t, u and v are at most 1048576, and for a face so is u + v), \
+         or t is beyond the cap\n"
     );
     let late = call(&["why", "0", "262144", "0", "0"], &close).unwrap();
     assert_eq!(

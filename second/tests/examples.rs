@@ -17,7 +17,7 @@ fn each_example_is_its_text() {
             seen += 1;
         }
     }
-    assert!(seen >= 8);
+    assert!(seen >= 9);
 }
 
 fn bytes_of(name: &str) -> Vec<u8> {
@@ -70,6 +70,20 @@ TOTAL 3 MET 1 CLEAR 1 SPENT 0 ROOM 0 FLOOR 0 REFUSED 1
 ";
     assert_eq!(swept("long-berth.query"), expected);
     assert!(swept("first.query").starts_with("7 MET 622592 311296 311296 50 583\n"));
+}
+
+#[test]
+fn cap_is_answered_up_to_each_moment() {
+    let expected = "\
+1 MET 622592 311296 311296 50 225
+2 MET 622592 311296 311296 50 89
+3 CLEAR 0 0 0 0 60
+4 MET 622592 311296 311296 50 583
+5 MET 622592 311296 311296 50 583
+6 REFUSED 22
+TOTAL 6 MET 4 CLEAR 1 SPENT 0 ROOM 0 FLOOR 0 REFUSED 1
+";
+    assert_eq!(swept("cap.query"), expected);
 }
 
 /// The same bytes with an edition's number in the trailer: 16 is a tolerance there, and the coordinates are none.

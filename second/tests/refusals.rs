@@ -1,4 +1,4 @@
-//! Refusals 1 to 7: the ranges' ends, and the order.
+//! Refusals 1 to 7 and 22: the ranges' ends, and the order.
 
 mod common;
 
@@ -7,6 +7,9 @@ use second::edition::Range;
 use second::record::Record;
 use second::refusals::{check_record, Refusal};
 use second::search::Answer;
+
+/// Those of a record, and 7, in the order in which they are looked at.
+const IN_ORDER: [u32; 8] = [1, 2, 3, 4, 5, 6, 22, 7];
 
 /// A record and the refusal that it alone deserves.
 fn spoiled(number: u32) -> Record {
@@ -23,6 +26,7 @@ fn spoil(record: &mut Record, number: u32) {
         4 => record.separations = [65_537; 3],
         5 => record.tolerance = 15,
         6 => record.budget = 0,
+        22 => record.cap = 1_048_577,
         _ => panic!("not a record's refusal"),
     }
 }
@@ -36,7 +40,7 @@ fn number(answer: Answer) -> u32 {
 
 #[test]
 fn each_alone() {
-    for n in 1..=6 {
+    for n in IN_ORDER.into_iter().take(7) {
         assert_eq!(number(ask(spoiled(n))), n);
         assert_eq!(check_record(&spoiled(n), Range::SHORTER).map_err(Refusal::number), Err(n));
     }
@@ -44,14 +48,14 @@ fn each_alone() {
 }
 
 #[test]
-fn lowest_of_every_combination() {
-    for chosen in 1_u32..128 {
+fn first_of_every_combination() {
+    for chosen in 1_u32..256 {
         let mut record = first_case();
-        for n in (1..=6).filter(|n| chosen >> (n - 1) & 1 == 1) {
-            spoil(&mut record, n);
+        for n in (0..7).filter(|n| chosen >> n & 1 == 1) {
+            spoil(&mut record, IN_ORDER[n]);
         }
-        let words = if chosen >> 6 == 1 { 1_048_577 } else { 4096 };
-        assert_eq!(number(ask_with(record, words)), chosen.trailing_zeros() + 1);
+        let words = if chosen >> 7 == 1 { 1_048_577 } else { 4096 };
+        assert_eq!(number(ask_with(record, words)), IN_ORDER[chosen.trailing_zeros() as usize]);
     }
 }
 
@@ -96,6 +100,9 @@ fn ends_of_the_other_ranges() {
     }
     for (budget, expected) in [(0, 6), (1, 0), (1_000_000, 0), (1_000_001, 6), (u32::MAX, 6)] {
         assert_eq!(number(ask(Record { budget, ..first_case() })), expected);
+    }
+    for (cap, expected) in [(0, 0), (1, 0), (M as u32, 0), (M as u32 + 1, 22), (u32::MAX, 22)] {
+        assert_eq!(number(ask(Record { cap, ..first_case() })), expected);
     }
     let lengths = [(0, 7), (1, 7), (2, 0), (3, 0), (1_048_576, 0), (1_048_577, 7), (usize::MAX, 7)];
     for (words, expected) in lengths {

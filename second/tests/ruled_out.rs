@@ -24,24 +24,6 @@ fn check(record: Record, words: usize, answer: Answer, rows: &[(Parts, &str)]) {
     check_rows(&searched(&record, words).unwrap(), answer, rows);
 }
 
-fn check_rows(searched: &Searched, answer: Answer, rows: &[(Parts, &str)]) {
-    assert_eq!(searched.answer, answer);
-    for (point, said) in rows {
-        let is = searched.why(*point).map_or_else(refused, |discarded| row(&discarded));
-        assert_eq!(is, *said, "at {point:?}");
-    }
-}
-
-fn refused(refusal: Refusal) -> String {
-    format!("REFUSED {}", refusal.number())
-}
-
-fn row(discarded: &Discarded) -> String {
-    let [level, kt, ku, kv, t, u, v, axis, side] = discarded.told();
-    let (axis, side) = (["x", "y", "z"][axis as usize], ["-", "+"][side as usize]);
-    format!("level {level} depths {kt} {ku} {kv} box {t} {u} {v} axis {axis} side {side}")
-}
-
 #[test]
 fn point_falls_through_the_face() {
     let rows = [
@@ -177,7 +159,7 @@ fn refused_in_the_order_of_the_papers() {
     let (outside, late) = ([1048577, 0, 0], [262144, 0, 0]);
     let case = first_case();
     assert_eq!(number(Record { budget: 0, ..case }, 1, outside, 0), 6);
-    assert_eq!(number(Record { spare: 1048577, ..case }, 1, outside, 0), 2);
+    assert_eq!(number(Record { cap: 1048577, ..case }, 1, outside, 0), 22);
     assert_eq!(number(case, 1, outside, 0), 7);
     assert_eq!(number(case, WORDS, outside, 0), 23);
     assert_eq!(number(case, WORDS, late, TOLD - 1), 14);
@@ -245,7 +227,8 @@ fn named_rightly(searched: &Searched, point: Parts, discarded: &Discarded) {
 fn named_boxes_hold_the_point_and_were_discarded_by_that_axis() {
     let mut rng = Rng::new(8, "ruled out");
     let mut named = 0;
-    for flavour in ["tiny", "full2", "degenerate2", "extreme", "budget2", "full3", "deep3"] {
+    for flavour in ["tiny", "full2", "degenerate2", "extreme", "budget2", "full3", "deep3", "cap2"]
+    {
         for (record, range) in files(flavour, 3).iter().flat_map(|file| ranged(file)) {
             let words = rng.pick(&[2, 7, 64, WORDS]);
             let Ok(searched) = Searched::of(&record, range, words) else { continue };
@@ -263,7 +246,8 @@ fn named_boxes_hold_the_point_and_were_discarded_by_that_axis() {
 
 #[test]
 fn every_discarded_box_before_the_answered_time_is_named_by_its_low_corner() {
-    let files = ["mixed2", "mixed3", "deep3"].into_iter().flat_map(|name| files(name, 6));
+    let files =
+        ["mixed2", "mixed3", "deep3", "cap2", "cap3"].into_iter().flat_map(|name| files(name, 6));
     for (record, range) in files.flat_map(|file| ranged(&file)) {
         let Ok(searched) = Searched::of(&record, range, WORDS) else { continue };
         for (level, logged) in searched.log.iter().enumerate() {

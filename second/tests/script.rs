@@ -1,7 +1,7 @@
 //! Query files written from text: what is taken as it stands, and what is said of a line that is not.
 
 use second::edition::Edition::Three;
-use second::file::{fetch, open, trailer};
+use second::file::{fetch, open, record_at, trailer};
 use second::script::write;
 use std::io::Write;
 use std::process::{Command, Output, Stdio};
@@ -33,7 +33,7 @@ fn edition_is_said_before_the_records() {
     let of_two = file(&format!("# a remark\n edition  2 # so\n{two}"));
     assert_eq!(of_two.len(), 128 + 16);
     let record = fetch(&of_two, 0).expect("a record");
-    assert_eq!((record.separations, record.tolerance, record.spare), ([5, 6, 7], 16, 0));
+    assert_eq!((record.separations, record.tolerance, record.cap), ([5, 6, 7], 16, 0));
     for text in [one.clone(), format!("edition 1\n{one}")] {
         assert_eq!(file(&text).len(), 116 + 16);
         assert_eq!(fetch(&file(&text), 0).expect("a record").separations, [5; 3]);
@@ -61,6 +61,37 @@ fn edition_is_said_once_and_by_its_number() {
     assert_eq!(said("edition 258\n"), "line 1: edition 258 is none of 1, 2 and 3");
     assert_eq!(said("edition\n"), "line 1: an edition is one number, not 0");
     assert_eq!(said("edition 2 3\n"), "line 1: an edition is one number, not 2");
+}
+
+#[test]
+fn cap_is_that_of_the_records_behind_it() {
+    let record = line("1 0 7 5 6 7 64 1000");
+    for edition in [2, 3] {
+        let text = format!(
+            "edition {edition}\n{record}cap 5\n{record}{record} cap  1048577 # so\n{record}cap 0\n{record}"
+        );
+        let file = file(&text);
+        let caps = (0..5).map(|n| record_at(&file, n).expect("a record").0.cap);
+        // One that is refused is written as it is said.
+        assert_eq!(caps.collect::<Vec<u32>>(), [0, 5, 5, 1_048_577, 0]);
+    }
+    assert_eq!(file("edition 2\ncap 5\n").len(), 16);
+}
+
+#[test]
+fn cap_is_said_by_its_number_and_not_in_edition_1() {
+    let none = "line 2: a record of edition 1 has no cap";
+    assert_eq!(said("edition 1\ncap 5\n"), none);
+    assert_eq!(said(&format!("{}cap 0\n", line("1 0 7 5 16 1000"))), none);
+    assert_eq!(said("\ncap 5\nedition 2\n"), none);
+    let of_two = |said_of: &str| said(&format!("edition 2\n{said_of}\n"));
+    assert_eq!(of_two("cap"), "line 2: a cap is one number, not 0");
+    assert_eq!(of_two("cap 5 6"), "line 2: a cap is one number, not 2");
+    assert_eq!(of_two("cap half"), "line 2: 'half' is no whole number");
+    assert_eq!(of_two("cap 0.5"), "line 2: '0.5' is no whole number");
+    assert_eq!(of_two("cap -1"), "line 2: cap -1 is not from 0 to 4294967295");
+    let far = "line 2: cap 4294967296 is not from 0 to 4294967295";
+    assert_eq!(of_two("cap 4294967296"), far);
 }
 
 #[test]

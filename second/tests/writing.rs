@@ -16,7 +16,9 @@ fn case(seed: u64, flavour: &'static str) -> Case {
 
 fn cases() -> Vec<Case> {
     let both = |flavour| [1, 2].map(|seed| case(seed, flavour));
-    flavours().into_iter().flat_map(both).collect()
+    let all = flavours().into_iter().flat_map(both);
+    // A cap of the whole step is seldom.
+    all.chain((3..9).flat_map(|seed| ["cap2", "cap3"].map(|name| case(seed, name)))).collect()
 }
 
 /// What differs in the writing of a case with fault N.
@@ -39,7 +41,7 @@ fn right_writers_pass_and_wrong_ones_are_reported() {
     let cases = cases();
     let found = each!(writing_library, &cases,
         0 1 2 3 4 5 6 7 8 9 10 11 12 13 14 15 16 17 18 19
-        20 21 22 23 24 25 26 27 28 29 30 31 32 33 34 35 36 37 38 39 40 41);
+        20 21 22 23 24 25 26 27 28 29 30 31 32 33 34 35 36 37 38 39 40 41 42 43 44 45 46 47 48 49);
     assert_reported(FAULTS, &found, &[Fault::None], ENOUGH);
 }
 
@@ -104,7 +106,7 @@ fn tally_counts_copies_trailers_and_refusals() {
         assert_eq!(writing::compare(&library::<0>(), &case, &mut tally), Vec::<String>::new());
     }
     let text = tally.to_string();
-    for number in (1..=14).filter(|number| *number != 7) {
+    for number in (1..=14).filter(|number| *number != 7).chain([22]) {
         assert!(text.contains(&format!(" {number}: ")), "{text}");
     }
     let files = 3 * cases().len();

@@ -83,7 +83,7 @@ static void written(void)
 {
     uint8_t *out = bytes, edition = 3, kind = 2, flags = 1;
     size_t out_len = 300, at = 5, points_len = 24;
-    uint32_t id = 70, dx = 12, dy = 15, dz = 17, tolerance = 67, budget = 1000, cap = 0;
+    uint32_t id = 70, dx = 12, dy = 15, dz = 17, tolerance = 67, budget = 1000, cap = 900001;
     const int32_t *points = edges;
     paint();
     print_outcome("taperhive_write", CALL(taperhive_write), 0);
@@ -139,7 +139,7 @@ static void all_answered(void)
 static void paired(void)
 {
     uint8_t edition = 3, kind = 2, flags = 1;
-    uint32_t id = 70, dx = 12, dy = 15, dz = 17, tolerance = 67, budget = 1000, cap = 0;
+    uint32_t id = 70, dx = 12, dy = 15, dz = 17, tolerance = 67, budget = 1000, cap = 600001;
     const int32_t *points = edges;
     uint64_t *queue = words;
     uint32_t *told = numbers;

@@ -8,7 +8,7 @@ use lib.ListN.{length, replicate}
 use Rattle.rules.specs.declared.Terms.{Terms}
 use Rattle.rules.specs.Refusals.{orElse, searchRefusal}
 use Rattle.rules.specs.declared.BodyAnswer.the-variants.{Clear}
-use Rattle.rules.specs.Bodies.{Body, isBody, face, askOf, queriesOf, bodyRefusal, sumOf}
+use Rattle.rules.specs.Bodies.{Body, isBody, face, askOf, queriesOf, bodyRefusal, sumOf, capOf, isOver}
 use Rattle.triangles.specs.InOrder.{none-refused, accepted}
 use Rattle.bodies.specs.Asking.{There}
 use Rattle.bodies.specs.Walk.{ToHear}
@@ -67,5 +67,5 @@ module _ (w : Terms) (a b : Body) (words : ℕ) where
     known-bodies = let h = and-eq-true-iff (isBody a) (isBody b) .0 (accepted w a b words none .0) in (known a (h .0), known b (h .1))
 
 pub all-to-hear : (w : Terms) (a b : Body) (queue : List ℕ) → bodyRefusal w a b (length queue) ≡ 0 → queue ≡ replicate (length queue) 0 → ToHear 983040 (queriesOf w a b) queue (Clear 0)
-unfolding sumOf
-all-to-hear w a b queue e z = record { none = none-refused (length queue) (queriesOf w a b) (accepted w a b (length queue) e .1); zero = z; room = omega arith }
+unfolding sumOf capOf isOver
+all-to-hear w a b queue e z = record { none = none-refused (length queue) (queriesOf w a b) (accepted w a b (length queue) e .1); zero = z; room = omega arith; step = omega arith; goes = refl }

@@ -13,7 +13,7 @@ use Rattle.rules.specs.Answers.{told, hasMoment}
 use Rattle.rules.specs.QueryFile.{isEdition}
 use Rattle.rules.specs.Refusals.{first, orElse}
 use Rattle.rules.specs.Search.{search as searched}
-use Rattle.rules.specs.Bodies.{Body, Asked, queriesOf, bodyRefusal, counted, isLess, sumOf, heard, hearAll, bodyUnless, bodySearch, queueAfterBodies}
+use Rattle.rules.specs.Bodies.{Body, Asked, queriesOf, bodyRefusal, counted, isLess, sumOf, heard, capOf, capped, isOver, hearNext, hearAll, bodyUnless, bodySearch, queueAfterBodies}
 use Rattle.answers.specs.Walk.{short}
 use Rattle.bodies.specs.Walk.{Heard}
 use Rattle.bodies.specs.Telling.{Answered, tellRefusal}
@@ -40,10 +40,21 @@ heard-answers sofar q r h =
     by true = tt
     by false = h
 
+next-answers : (words : ℕ) (sofar : BodyAnswer) (q : Asked) → IsAnswer sofar → IsAnswer (hearNext words sofar q)
+unfolding hearNext
+next-answers words sofar q h = by (isOver sofar)
+  where
+    r : Told
+    r = told (searched (capped (capOf sofar) (q .ask)) words)
+
+    by : (x : Bool) → IsAnswer (cond x sofar (heard sofar q r))
+    by true = h
+    by false = heard-answers sofar q r h
+
 hearAll-answers : (words : ℕ) (sofar : BodyAnswer) (qs : List Asked) → IsAnswer sofar → IsAnswer (hearAll words sofar qs)
 unfolding hearAll
 hearAll-answers words sofar [] h = h
-hearAll-answers words sofar (q ∷ qs) h = hearAll-answers words (heard sofar q (told (searched (q .ask) words))) qs (heard-answers sofar q (told (searched (q .ask) words)) h)
+hearAll-answers words sofar (q ∷ qs) h = hearAll-answers words (hearNext words sofar q) qs (next-answers words sofar q h)
 
 after-answer : (x : BodyAnswer) (queue : List ℕ) → IsAnswer x → queueAfterBodies x queue ≡ replicate (length queue) 0
 unfolding queueAfterBodies

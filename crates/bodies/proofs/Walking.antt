@@ -1,10 +1,11 @@
 -- A list of queries heard part by part: what is left gives the whole list's answer.
 --     Going        the invariant of all three loops
---     going-asks   the next part may be heard, and `going-more` when it was
+--     going-asks   the next part may be heard, and `going-more` when it was; `going-over` where it ended the walk
 --     pair-next, each-next   the next part of a pair's queries, of a row's and of the bodies'
 -- Assumes nothing.
 use Prim.Native.Nat.{ℕ, zero, suc, _+_, _-_, _≤_, _<_}
 use mathlib.Core.Path.{_≡_, refl, sym, ap, subst, _∙_}
+use mathlib.Core.Bool.{Bool, true, false, cond}
 use mathlib.Core.List.{List, [], _∷_, _++_}
 use native.Mathlib.Omega.{arith}
 use lib.IntN.{ℤ}
@@ -17,18 +18,21 @@ use Rattle.rules.specs.declared.BodyAnswer.{BodyAnswer}
 use Rattle.rules.specs.Answers.{told}
 use Rattle.rules.specs.Refusals.{searchRefusal}
 use Rattle.rules.specs.Search.{search as searched}
-use Rattle.rules.specs.Bodies.{Body, Asked, face, fifteen, askOf, askedFrom, eachFrom, queriesOf, heard, hearAll}
+use Rattle.rules.specs.Bodies.{Body, Asked, face, fifteen, askOf, askedFrom, eachFrom, queriesOf, heard, capOf, capped, isOver, hearNext, hearAll}
 use Rattle.triangles.specs.Members.{All, parts}
 use Rattle.triangles.specs.InOrder.{hearAll-append}
+use Rattle.promise.proofs.Bodies.Promised.{caps-in-step}
 use Rattle.bodies.specs.Asking.{body}
+use Rattle.bodies.specs.Counted.{hear-over}
 use Rattle.bodies.specs.Walk.{positions, SumRoom, Grows, ToHear, Heard, queryAlone, rowQueries}
 
 -- ---- one query
 
-pub heard-one : (words : ℕ) (sofar : BodyAnswer) (q : Asked) (n : Told) (r : BodyAnswer) → n ≡ told (searched (q .ask) words) → r ≡ heard sofar q n
-    → r ≡ hearAll words sofar (q ∷ [])
-unfolding hearAll
-heard-one words sofar q n r e h = h ∙ ap (heard sofar q) e
+pub heard-one : (words : ℕ) (sofar : BodyAnswer) (q : Asked) (n : Told) (r : BodyAnswer) → isOver sofar ≡ false → n ≡ told (searched (capped (capOf sofar) (q .ask)) words)
+    → r ≡ heard sofar q n → r ≡ hearAll words sofar (q ∷ [])
+unfolding hearAll hearNext
+heard-one words sofar q n r o e h =
+    h ∙ ap (heard sofar q) e ∙ ap (λ (x : Bool). cond x sofar (heard sofar q (told (searched (capped (capOf sofar) (q .ask)) words)))) (sym o)
 
 pub not-refused : (words : ℕ) (q : Asked) → All (λ q. searchRefusal (q .ask) words ≡ 0) (q ∷ []) → searchRefusal (q .ask) words ≡ 0
 unfolding All
@@ -41,10 +45,11 @@ pub record Going (n : ℕ) (all left : List Asked) (before queue : List ℕ) (fi
   pub none : All (λ q. searchRefusal (q .ask) (length before) ≡ 0) left
   pub kept : queue ≡ before
   pub grows : Grows n first sofar
+  pub step : capOf sofar ≤ 1048576
 
 pub going-none : (m : ℕ) (all left : List Asked) (queue : List ℕ) (first : BodyAnswer) → left ≡ all → ToHear m all queue first → Going 0 all left queue queue first first
 going-none m all left queue first e h =
-    subst (λ (l : List Asked). Going 0 all l queue queue first first) (sym e) (record { same = refl; none = h .none; kept = refl; grows = omega arith })
+    subst (λ (l : List Asked). Going 0 all l queue queue first first) (sym e) (record { same = refl; none = h .none; kept = refl; grows = omega arith; step = h .step })
 
 module _ (n m : ℕ) (all left ps qs : List Asked) (before queue : List ℕ) (first sofar : BodyAnswer) (g : Going n all left before queue first sofar) (e : left ≡ ps ++ qs) where
   none-left : All (λ q. searchRefusal (q .ask) (length before) ≡ 0) (ps ++ qs)
@@ -54,10 +59,10 @@ module _ (n m : ℕ) (all left ps qs : List Asked) (before queue : List ℕ) (fi
   pub going-first : All (λ q. searchRefusal (q .ask) (length before) ≡ 0) ps
   going-first = parts (λ q. searchRefusal (q .ask) (length before) ≡ 0) ps qs none-left .0
 
-  pub going-asks : (room : ℕ) → n + m ≤ room → before ≡ replicate (length before) 0 → SumRoom room first → ToHear m ps queue sofar
-  going-asks room l z s =
+  pub going-asks : isOver sofar ≡ false → (room : ℕ) → n + m ≤ room → before ≡ replicate (length before) 0 → SumRoom room first → ToHear m ps queue sofar
+  going-asks o room l z s =
       subst (λ (w : List ℕ). ToHear m ps w sofar) (sym (g .kept))
-      (record { none = going-first; zero = z; room = omega (arith, g .grows, s, l) })
+      (record { none = going-first; zero = z; room = omega (arith, g .grows, s, l); step = g .step; goes = o })
 
   pub going-more : (next : ℕ) → n + m ≤ next → (queue′ : List ℕ) (r : BodyAnswer) → Heard m ps queue queue′ sofar r → Going next all qs before queue′ first r
   going-more next l queue′ r h =
@@ -67,17 +72,24 @@ module _ (n m : ℕ) (all left ps qs : List Asked) (before queue : List ℕ) (fi
         none = parts (λ q. searchRefusal (q .ask) (length before) ≡ 0) ps qs none-left .1;
         kept = h .kept ∙ g .kept;
         grows = omega (arith, g .grows, h .grows, l);
+        step = subst (λ (x : BodyAnswer). capOf x ≤ 1048576) (sym s) (caps-in-step (length before) ps sofar (g .step));
       }
 
 -- one stretch, and then another
 pub going-then : {n m : ℕ} {all left rest : List Asked} {before queue : List ℕ} {first sofar r : BodyAnswer} → Going n all left before before first sofar → Going m left rest before queue sofar r → Going (n + m) all rest before queue first r
-going-then g h = record { same = g .same ∙ h .same; none = h .none; kept = h .kept; grows = omega (arith, g .grows, h .grows) }
+going-then g h = record { same = g .same ∙ h .same; none = h .none; kept = h .kept; grows = omega (arith, g .grows, h .grows); step = h .step }
 
 pub going-all : (n m : ℕ) (all left : List Asked) (before queue : List ℕ) (first sofar : BodyAnswer) → Going n all left before queue first sofar → left ≡ [] → n ≤ m
     → Heard m all before queue first sofar
 unfolding hearAll
 going-all n m all left before queue first sofar g e l =
     record { says = sym (g .same ∙ ap (hearAll (length before) sofar) e); kept = g .kept; grows = omega (arith, g .grows, l) }
+
+-- what is left has no part in a walk that is over
+pub going-over : (n m : ℕ) (all left : List Asked) (before queue : List ℕ) (first sofar : BodyAnswer) → Going n all left before queue first sofar → isOver sofar ≡ true → n ≤ m
+    → Heard m all before queue first sofar
+going-over n m all left before queue first sofar g o l =
+    record { says = hear-over (length before) sofar left o ∙ sym (g .same); kept = g .kept; grows = omega (arith, g .grows, l) }
 
 -- ---- what is left of a pair's queries
 

@@ -15,10 +15,10 @@ use Rattle.rules.specs.declared.Terms.{Terms}
 use Rattle.rules.specs.declared.Ask.{Ask}
 use Rattle.rules.specs.declared.Axis.{Axis}
 use Rattle.rules.specs.declared.Axis.the-variants.{X, Y, Z}
-use Rattle.rules.specs.Gap.{place}
+use Rattle.rules.specs.Gap.{place, sided}
 use Rattle.rules.specs.Refusals.{searchRefusal}
-use Rattle.rules.specs.Search.{search}
-use Rattle.rules.specs.Bodies.{face, edges, fifteen, cornerPlace, askOf, askedFrom, pairQueries}
+use Rattle.rules.specs.Search.{query, origin, least, greatest, overCorners, survives, search}
+use Rattle.rules.specs.Bodies.{face, edges, fifteen, cornerPlace, askOf, askedFrom, pairQueries, capped}
 use Rattle.kernel.specs.declared.Kernel.{Kernel}
 use Rattle.gap.specs.declared.span.Span.{Span}
 use Rattle.gap.specs.Corners.{meets}
@@ -27,6 +27,7 @@ use Rattle.gap.specs.Steps.{SmallSpan}
 use Rattle.gap.specs.Prepared.{axisOf, misses-any}
 use Rattle.search.specs.Whole.{search-clear}
 use Rattle.triangles.specs.Members.{All, askAt}
+use Rattle.triangles.specs.InOrder.{capped-none}
 use Rattle.bodies.specs.declared.apart.Reach.{Reach}
 use Rattle.bodies.specs.Asking.{body}
 use Rattle.bodies.specs.Walk.{positions}
@@ -284,24 +285,35 @@ abbrev Each : (Ask → Type 0) → List Ask → Type 0
 Each P [] = Unit
 Each P (k ∷ ks) = P k × Each P ks
 
+-- whatever the cap is: the whole cube has no part in it
+abbrev pub ClearUpTo : ℕ → Record → Type 0
+ClearUpTo words r = (cap : ℕ) → cap ≤ 1048576 → search (capped cap r) words ≡ Clear 1
+
+capped-lost : (cap words : ℕ) (r : Record) → survives (query (capped cap r) words) origin origin ≡ survives (query r words) origin origin
+unfolding capped sided survives least greatest overCorners
+capped-lost cap words r = refl
+
+capped-clear : (r : Record) (words : ℕ) → searchRefusal r words ≡ 0 → survives (query r words) origin origin ≡ false → ClearUpTo words r
+capped-clear r words e f cap h = search-clear (capped cap r) words (capped-none cap words r h e) (capped-lost cap words r ∙ f)
+
 module _ (w : Terms) (a0 a1 b0 b1 : List ℤ) (i j words : ℕ) where
   one-clear : (axis : Axis) (k : Ask) → Misses w a0 a1 b0 b1 i j axis (corners w a0 a1 b0 b1 i j axis) (separationIn w axis) k → searchRefusal (ask w a0 a1 b0 b1 i j axis k) words ≡ 0
-      → search (ask w a0 a1 b0 b1 i j axis k) words ≡ Clear 1
+      → ClearUpTo words (ask w a0 a1 b0 b1 i j axis k)
   unfolding askOf
-  one-clear X k m e = search-clear (ask w a0 a1 b0 b1 i j X k) words e (misses-any (ask w a0 a1 b0 b1 i j X k) words X m)
-  one-clear Y k m e = search-clear (ask w a0 a1 b0 b1 i j Y k) words e (misses-any (ask w a0 a1 b0 b1 i j Y k) words Y m)
-  one-clear Z k m e = search-clear (ask w a0 a1 b0 b1 i j Z k) words e (misses-any (ask w a0 a1 b0 b1 i j Z k) words Z m)
+  one-clear X k m e = capped-clear (ask w a0 a1 b0 b1 i j X k) words e (misses-any (ask w a0 a1 b0 b1 i j X k) words X m)
+  one-clear Y k m e = capped-clear (ask w a0 a1 b0 b1 i j Y k) words e (misses-any (ask w a0 a1 b0 b1 i j Y k) words Y m)
+  one-clear Z k m e = capped-clear (ask w a0 a1 b0 b1 i j Z k) words e (misses-any (ask w a0 a1 b0 b1 i j Z k) words Z m)
 
   each-clear : (axis : Axis) (n : ℕ) (ks : List Ask) → Each (Misses w a0 a1 b0 b1 i j axis (corners w a0 a1 b0 b1 i j axis) (separationIn w axis)) ks
       → All (λ q. searchRefusal (q .ask) words ≡ 0) (askedFrom w (positions a0 a1) (positions b0 b1) i j n ks)
-      → All (λ q. search (q .ask) words ≡ Clear 1) (askedFrom w (positions a0 a1) (positions b0 b1) i j n ks)
+      → All (λ q. ClearUpTo words (q .ask)) (askedFrom w (positions a0 a1) (positions b0 b1) i j n ks)
   unfolding All askedFrom
   each-clear axis n [] m h = tt
   each-clear axis n (k ∷ ks) m h = (one-clear axis k (m .0) (h .0), each-clear axis (n + 1) ks (m .1) (h .1))
 
   pub pair-clear : (axis : Axis) → Further (reachAt a0 a1 (9 * i + place axis)) (reachAt b0 b1 (9 * j + place axis)) (separationIn w axis)
       → All (λ q. searchRefusal (q .ask) words ≡ 0) (pairQueries w (positions a0 a1) (positions b0 b1) i j)
-      → All (λ q. search (q .ask) words ≡ Clear 1) (pairQueries w (positions a0 a1) (positions b0 b1) i j)
+      → All (λ q. ClearUpTo words (q .ask)) (pairQueries w (positions a0 a1) (positions b0 b1) i j)
   pair-clear axis f h =
       let m = all-miss w a0 a1 b0 b1 i j axis (corners w a0 a1 b0 b1 i j axis) (separationIn w axis) f in
       each-clear axis 1 fifteen

@@ -1,6 +1,7 @@
 -- What the parts of the walk ask and promise: the queries of a list heard one after the other, in a queue of zeros.
 use Prim.Native.Nat.{ℕ, _+_, _*_, _≤_, _<_}
 use mathlib.Core.Path.{_≡_}
+use mathlib.Core.Bool.{false}
 use mathlib.Core.List.{List, [], _∷_}
 use lib.IntN.{ℤ}
 use lib.ListN.{length, replicate}
@@ -9,7 +10,7 @@ use Rattle.rules.specs.declared.Told.{Told}
 use Rattle.rules.specs.declared.Terms.{Terms}
 use Rattle.rules.specs.declared.BodyAnswer.{BodyAnswer}
 use Rattle.rules.specs.Refusals.{searchRefusal}
-use Rattle.rules.specs.Bodies.{Body, Asked, pairQueries, eachFrom, bodyRefusal, sumOf, heard, hearAll}
+use Rattle.rules.specs.Bodies.{Body, Asked, pairQueries, eachFrom, bodyRefusal, sumOf, heard, capOf, isOver, hearAll}
 use Rattle.triangles.specs.Members.{All, asked, askAt}
 use Rattle.bodies.specs.Asking.{body, There}
 
@@ -33,11 +34,13 @@ pub record HeardIs (sofar : BodyAnswer) (a b query : ℕ) (n : Told) (r : BodyAn
 
 -- ---- a list of queries
 
--- none of them is refused, the queue is zero, and there is room for n counts
+-- none of them is refused, the queue is zero, there is room for n counts, and the time so far is one of the step, but not 0, which would end the walk
 pub record ToHear (n : ℕ) (qs : List Asked) (queue : List ℕ) (sofar : BodyAnswer) : Type 0 where
   pub none : All (λ q. searchRefusal (q .ask) (length queue) ≡ 0) qs
   pub zero : queue ≡ replicate (length queue) 0
   pub room : SumRoom n sofar
+  pub step : capOf sofar ≤ 1048576
+  pub goes : isOver sofar ≡ false
 
 pub record Heard (n : ℕ) (qs : List Asked) (queue queue′ : List ℕ) (sofar r : BodyAnswer) : Type 0 where
   pub says : r ≡ hearAll (length queue) sofar qs

@@ -166,7 +166,7 @@ fn query_of(
         dz: w.dz,
         tolerance: w.tolerance,
         budget: w.budget,
-        spare: 0,
+        cap: 0,
         edition: w.edition,
         points,
     }

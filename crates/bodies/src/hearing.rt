@@ -2,7 +2,7 @@
 ghost use mathlib.Core.Path.{_≡_};
 ghost use Prim.Native.Nat.{_+_, _≤_};
 ghost use Rattle.rules.specs.Answers.{hasMoment};
-ghost use Rattle.rules.specs.Bodies.{isLess, sumOf, counted};
+ghost use Rattle.rules.specs.Bodies.{isLess, sumOf, counted, capOf, isOver};
 ghost use Rattle.bodies.specs.Walk.{SumRoom, HeardIs};
 use rules::BodyAnswer;
 use rules::Told;
@@ -28,6 +28,44 @@ fn is_less(t: u32, sofar: BodyAnswer) -> bool
             excess,
             count,
         } => t < least,
+        BodyAnswer::Refused(number) => false,
+    }
+}
+
+// The cap of the next query: the least time so far, and the whole step where there is none.
+pub fn cap_of(sofar: BodyAnswer) -> u32
+    ensures { λ r. ⌜ r ≡ capOf sofar ⌝ }
+{
+    match sofar {
+        BodyAnswer::Clear(sum) => 0,
+        BodyAnswer::Least {
+            t,
+            a,
+            b,
+            query,
+            word,
+            excess,
+            count,
+        } => t,
+        BodyAnswer::Refused(number) => 0,
+    }
+}
+
+// A time of 0 ends the walk.
+pub fn is_over(sofar: BodyAnswer) -> bool
+    ensures { λ r. ⌜ r ≡ isOver sofar ⌝ }
+{
+    match sofar {
+        BodyAnswer::Clear(sum) => false,
+        BodyAnswer::Least {
+            t,
+            a,
+            b,
+            query,
+            word,
+            excess,
+            count,
+        } => t == 0,
         BodyAnswer::Refused(number) => false,
     }
 }

@@ -10,8 +10,10 @@ use answers::numbers;
 use apart::next_near;
 use apart::reach_of;
 use asking::query_at;
+use hearing::cap_of;
 use hearing::counted;
 use hearing::heard;
+use hearing::is_over;
 use refusals::are_coordinates;
 use refusals::is_edition;
 use refusals::search_refusal;
@@ -66,7 +68,7 @@ pub fn body_refusal(
 
 // ---- every query heard
 
-// Query k of the pair i, j, from 0.
+// Query k of the pair i, j, from 0, with the least time so far as its cap.
 fn hear_query(
     w: Terms,
     a0: &[i32],
@@ -82,11 +84,13 @@ fn hear_query(
     requires { ⌜ OfQuery w (now a0) (now a1) (now b0) (now b1) i j k (now queue) sofar ⌝ }
     ensures { λ r. ⌜ QueryHeard w (now (a0 .entry)) (now (a1 .entry)) (now (b0 .entry)) (now (b1 .entry)) i j k (now (queue .entry)) (now (queue .exit)) sofar r ⌝ }
 {
-    let answer = search_accepted(query_at(w, a0, a1, b0, b1, i, j, k), queue);
+    let mut asks = query_at(w, a0, a1, b0, b1, i, j, k);
+    asks.cap = cap_of(sofar);
+    let answer = search_accepted(asks, queue);
     heard(sofar, i as u32, j as u32, (1 + k) as u32, numbers(answer))
 }
 
-// The fifteen queries of the pair i, j.
+// The fifteen queries of the pair i, j; a time of 0 ends them, as it ends the row and the walk.
 fn hear_pair(
     w: Terms,
     a0: &[i32],
@@ -105,6 +109,9 @@ fn hear_pair(
     let mut k = 0;
     while k < 15 {
         sofar = hear_query(w, a0, a1, b0, b1, i, j, k, queue, sofar);
+        if is_over(sofar) {
+            return sofar;
+        }
         k += 1;
     }
     sofar
@@ -130,6 +137,9 @@ fn hear_row(
     let mut sofar = counted(15 * (j as u64), first);
     while j < n {
         let more = hear_pair(w, a0, a1, b0, b1, i, j, queue, sofar);
+        if is_over(more) {
+            return more;
+        }
         let near = next_near(w, reach, b0, b1, j + 1, n);
         sofar = counted(15 * ((near - (j + 1)) as u64), more);
         j = near;
@@ -155,6 +165,9 @@ fn hear_bodies(
     let mut i = 0;
     while i < m {
         sofar = hear_row(w, a0, a1, i, n, b0, b1, queue, sofar);
+        if is_over(sofar) {
+            return sofar;
+        }
         i += 1;
     }
     sofar

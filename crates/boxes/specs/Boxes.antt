@@ -1,6 +1,7 @@
 -- A word read back as a box.
 use mathlib.Core.Bool.{Bool, true, false}
-use Prim.Native.Nat.{ℕ, _-_, _/_, _%_, _^_, _<_}
+use Prim.Native.Nat.{ℕ, _+_, _-_, _/_, _%_, _^_, _<_}
+use lib.Bits.{bitAnd}
 use Rattle.rules.specs.declared.Parameter.{Parameter}
 use Rattle.rules.specs.declared.Parameter.the-variants.{InT, InU, InV}
 use Rattle.rules.specs.Search.{Box, lowHalf, highHalf}
@@ -29,3 +30,8 @@ abbrev pub indexOne : Parameter → ℕ
 indexOne InT = 2 ^ 40
 indexOne InU = 2 ^ 20
 indexOne InV = 1
+
+-- a word's half by these two: the index and itself, in its own bits, and one more for the high half
+abbrev pub halfBy : ℕ → ℕ → Bool → ℕ → ℕ
+halfBy bits one false w = w + bitAnd w bits
+halfBy bits one true w = w + bitAnd w bits + one

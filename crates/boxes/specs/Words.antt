@@ -1,16 +1,16 @@
 -- Laws of words: what is packed is read back, and the order of words is the order of boxes.
 use mathlib.Core.Path.{_≡_, refl, sym, ap, _∙_}
 use mathlib.Core.Bool.{Bool, true, false, _&&_, _||_}
-use Prim.Native.Nat.{ℕ, _+_, _^_, _≤_, _<_}
+use Prim.Native.Nat.{ℕ, _+_, _*_, _^_, _≤_, _<_}
 use native.Mathlib.Omega.{arith}
 use lib.Dec.{leb, ltb, eqb}
-use borrow.Author.Tests.{ltb-true, ltb-false, eqb-true, eqb-false, leb-true, leb-false, le-leb, lt-leb}
-use lib.Bits.{bitAnd, and-mask, and-high}
+use borrow.Author.Tests.{ltb-true, ltb-false, eqb-true, eqb-false, leb-true, leb-false, le-leb, lt-leb, lt-ltb, le-ltb}
+use lib.Bits.{and-mask, and-high}
 use Rattle.rules.specs.Search.{Box, stored, notAfter}
 use Rattle.rules.specs.declared.Three.{Three}
 use Rattle.rules.specs.declared.Parameter.{Parameter}
 use Rattle.rules.specs.declared.Parameter.the-variants.{InT, InU, InV}
-use Rattle.boxes.specs.Boxes.{boxOf, Fits, halfOf, indexBits, indexOne}
+use Rattle.boxes.specs.Boxes.{boxOf, Fits, halfOf, indexBits, indexOne, halfBy}
 
 -- a box is its three indices
 three : (a b : Three) → a .t ≡ b .t → a .u ≡ b .u → a .v ≡ b .v → a ≡ b
@@ -28,21 +28,27 @@ pack-unpack w h = omega arith
 pub fits-word : (w : ℕ) → Fits (boxOf w)
 fits-word w = record { t = omega arith; u = omega arith; v = omega arith }
 
--- a half by arithmetic on the word: the index and itself, in its own bits
-pub twice : (p : Parameter) (w : ℕ) → w < 2 ^ 60 → w + bitAnd w (indexBits p) ≡ stored (halfOf p false (boxOf w))
-twice InT w h = rw (and-high w 20 40) (omega arith)
-twice InU w h = rw (and-high w 20 20) (omega arith)
-twice InV w h = rw (and-mask w 20) (omega arith)
-
-pub twice-and-one : (p : Parameter) (w : ℕ) → w < 2 ^ 60 → w + bitAnd w (indexBits p) + indexOne p ≡ stored (halfOf p true (boxOf w))
-twice-and-one InT w h = rw (and-high w 20 40) (omega arith)
-twice-and-one InU w h = rw (and-high w 20 20) (omega arith)
-twice-and-one InV w h = rw (and-mask w 20) (omega arith)
+-- a half by arithmetic on the word is the word of the half
+pub half-by : (p : Parameter) (high : Bool) (w : ℕ) → w < 2 ^ 60 → halfBy (indexBits p) (indexOne p) high w ≡ stored (halfOf p high (boxOf w))
+half-by InT false w h = rw (and-high w 20 40) (omega arith)
+half-by InU false w h = rw (and-high w 20 20) (omega arith)
+half-by InV false w h = rw (and-mask w 20) (omega arith)
+half-by InT true w h = rw (and-high w 20 40) (omega arith)
+half-by InU true w h = rw (and-high w 20 20) (omega arith)
+half-by InV true w h = rw (and-mask w 20) (omega arith)
 
 pub one-most : (p : Parameter) → indexOne p ≤ 2 ^ 40
 one-most InT = omega arith
 one-most InU = omega arith
 one-most InV = omega arith
+
+-- a word is below those of t index n + 1 where its t index is at most n
+pub below-index : (b : Box) (n : ℕ) → Fits b → ltb (stored b) ((n + 1) * 2 ^ 40) ≡ leb (b .t) n
+below-index b n f = go (leb (b .t) n) refl
+  where
+    go : (x : Bool) → leb (b .t) n ≡ x → ltb (stored b) ((n + 1) * 2 ^ 40) ≡ x
+    go true e = lt-ltb (stored b) ((n + 1) * 2 ^ 40) (omega (arith, leb-true (b .t) n e, f .u, f .v))
+    go false e = le-ltb (stored b) ((n + 1) * 2 ^ 40) (omega (arith, leb-false (b .t) n e))
 
 -- the order of words is the order of boxes
 module _ (a b : Box) (f : Fits a) (g : Fits b) where

@@ -1,8 +1,8 @@
 // A stored box as one word: t index in bits 40 to 59, u in bits 20 to 39, v in bits 0 to 19.
 ghost use mathlib.Core.Path.{_≡_};
-ghost use Prim.Native.Nat.{_^_, _<_};
+ghost use Prim.Native.Nat.{_^_, _<_, _≤_};
 ghost use Rattle.rules.specs.Search.{stored};
-ghost use Rattle.boxes.specs.Boxes.{boxOf, Fits, halfOf, indexBits, indexOne};
+ghost use Rattle.boxes.specs.Boxes.{boxOf, Fits, halfOf, indexBits, indexOne, halfBy};
 use rules::Parameter;
 use rules::Three;
 
@@ -26,7 +26,7 @@ pub fn unpack(w: u64) -> Three
 }
 
 // The bits of a word that hold the index of a parameter.
-fn index_bits(p: Parameter) -> u64
+pub fn index_bits(p: Parameter) -> u64
     ensures { λ r. ⌜ r ≡ indexBits p ⌝ }
 {
     match p {
@@ -37,7 +37,7 @@ fn index_bits(p: Parameter) -> u64
 }
 
 // One in that index.
-fn index_one(p: Parameter) -> u64
+pub fn index_one(p: Parameter) -> u64
     ensures { λ r. ⌜ r ≡ indexOne p ⌝ }
 {
     match p {
@@ -47,11 +47,19 @@ fn index_one(p: Parameter) -> u64
     }
 }
 
-// The word of a half: the index twice in its own bits, and one more for the high half.
+// The word of a half by the bits of the index and one in it: the index twice in its own bits, and one more for the high half.
+pub fn half_by(bits: u64, one: u64, high: bool, w: u64) -> u64
+    requires { ⌜ (w < 2 ^ 60) × (one ≤ 2 ^ 40) ⌝ }
+    ensures { λ r. ⌜ r ≡ halfBy bits one high w ⌝ }
+{
+    let low = w + (w & bits);
+    if high { low + one } else { low }
+}
+
+// The word of a half by the parameter that is split.
 pub fn half(p: Parameter, high: bool, w: u64) -> u64
     requires { ⌜ w < 2 ^ 60 ⌝ }
     ensures { λ r. ⌜ r ≡ stored (halfOf p high (boxOf w)) ⌝ }
 {
-    let low = w + (w & index_bits(p));
-    if high { low + index_one(p) } else { low }
+    half_by(index_bits(p), index_one(p), high, w)
 }

@@ -24,7 +24,7 @@ recordOf edition kind flags id dx dy dz tolerance budget cap points = record {
   dz = dz;
   tolerance = tolerance;
   budget = budget;
-  spare = cap;
+  cap = cap;
   edition = edition;
   points = take 24 points;
 }

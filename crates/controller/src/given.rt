@@ -58,7 +58,7 @@ pub fn record_of(
         dz,
         tolerance,
         budget,
-        spare: cap,
+        cap,
         edition,
         points,
     }

@@ -14,7 +14,7 @@ use Rattle.rules.specs.Refusals.{Case, first, orElse, recordCases, searchRefusa
 use Rattle.rules.specs.Search.{search}
 use Rattle.rules.specs.Why.{inDomain, isBefore, fromWhole, askRefusal, whyRefusal, unlessWhy, whySearch, whyQueueAfter}
 
--- ---- the search's own are 1 to 7
+-- ---- the search's own are 1 to 7 and 22
 abbrev pub Most : ℕ → List Case → Type 0
 Most n [] = Unit
 Most n (c ∷ cs) = (c .number ≤ n) × Most n cs
@@ -28,11 +28,11 @@ first-most n (c ∷ cs) h = go (c .due) (first-most n cs (h .1))
     go true g = h .0
     go false g = g
 
-own-most : (r : Record) (words : ℕ) → searchRefusal r words ≤ 7
+own-most : (r : Record) (words : ℕ) → searchRefusal r words ≤ 22
 unfolding searchRefusal
 own-most r words =
-    first-most 7 (recordCases r ++ (record { number = 7; due = not (isQueue words) } ∷ []))
-    (omega arith, (omega arith, (omega arith, (omega arith, (omega arith, (omega arith, (omega arith, tt)))))))
+    first-most 22 (recordCases r ++ (record { number = 7; due = not (isQueue words) } ∷ []))
+    (omega arith, (omega arith, (omega arith, (omega arith, (omega arith, (omega arith, (omega arith, (omega arith, tt))))))))
 
 module _ (r : Record) (words : ℕ) (at : Three) where
   -- ---- by the three tests
@@ -74,7 +74,7 @@ module _ (r : Record) (words : ℕ) (at : Three) where
     pub few : n ≤ 23
     few = go (searchRefusal r words) (inDomain r at) (own-most r words) (e ∙ sym ask-is)
       where
-        go : (k : ℕ) (x : Bool) → k ≤ 7 → n ≡ before k x → n ≤ 23
+        go : (k : ℕ) (x : Bool) → k ≤ 22 → n ≡ before k x → n ≤ 23
         go (suc k) x f g = omega arith
         go zero false f g = omega arith
         go zero true f g = omega arith

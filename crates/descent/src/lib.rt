@@ -1,8 +1,10 @@
 // Why a point was ruled out: from the whole domain down into the half that holds it, to the first box that was discarded.
 ghost use mathlib.Core.Path.{_≡_};
 ghost use Prim.Native.Nat.{_<_, _^_};
-ghost use lib.Dec.{ltb};
+ghost use mathlib.Core.Bool.{_&&_};
+ghost use lib.Dec.{leb, ltb};
 ghost use lib.ListN.{length, replicate};
+ghost use Rattle.rules.specs.Numbers.{parts, lastMoment};
 ghost use Rattle.rules.specs.Refusals.{searchRefusal};
 ghost use Rattle.rules.specs.Why.{inDomain, isBefore, inUpper, goesUp, holding, halfOf, reasonOf, descend, fromWhole, askRefusal, whyRefusal, whySearch, whyQueueAfter};
 ghost use Rattle.kernel.specs.Kernel.{asked};
@@ -12,6 +14,7 @@ use boxes::pack;
 use boxes::unpack;
 use gap::PARTS;
 use gap::cell::low;
+use gap::last_moment;
 use kernel::Pair;
 use queue::clear;
 use refusals::first;
@@ -29,11 +32,18 @@ use rules::Three;
 use search::deepen;
 use search::search_levels;
 
-// Whether a point, in parts, is inside the domain. A sum is taken only of numbers that are.
+// Whether a moment, in parts, is one of the step and not beyond the cap.
+fn in_time(cap: u32, t: u64) -> bool
+    ensures { λ b. ⌜ b ≡ (leb t parts && leb t (lastMoment cap)) ⌝ }
+{
+    (t <= PARTS) & (t <= last_moment(cap))
+}
+
+// Whether a point, in parts, is inside the domain and not beyond the cap. A sum is taken only of numbers that are.
 fn in_domain(r: Record, at: Three) -> bool
     ensures { λ b. ⌜ b ≡ inDomain r at ⌝ }
 {
-    if PARTS < at.t {
+    if !in_time(r.cap, at.t) {
         return false;
     }
     if PARTS < at.u {

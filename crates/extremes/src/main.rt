@@ -1,9 +1,9 @@
 // The box's questions at the extremes of document 01's numbers. A line: whether the box survives; the low corner's t, u, v and excess;
-// whether it is near; the parameter to split in (0, 1, 2 for t, u, v); whether the box is inside.
+// whether it is near; the parameter to split in (0, 1, 2 for t, u, v); whether the box is inside the face.
 ghost use Prim.Native.Nat.{_≤_};
 ghost use Rattle.kernel.specs.Ranges.{Ranged, Shallow, InGrid};
 use gap::corner;
-use gap::inside;
+use gap::in_face;
 use gap::near;
 use gap::prepare;
 use gap::slab::slab_at;
@@ -60,7 +60,7 @@ fn query(
         dz: separation,
         tolerance: tolerance,
         budget: 1,
-        spare: 0,
+        cap: 0,
         edition: edition,
         points: points,
     }
@@ -108,7 +108,7 @@ fn ask(p: Pair, k: Three, i: Three) -> Answers
         corner,
         near: near(p, k, i, corner.excess),
         split: split(p, k),
-        inside: inside(p, k, i),
+        inside: in_face(p, k, i),
     }
 }
 

@@ -1,7 +1,7 @@
 -- What the written search asks of a pair's box, axis by axis, over the box's cell.
 use mathlib.Core.Path.{_≡_, refl, sym, ap, ap₂, _∙_}
-use mathlib.Core.Bool.{Bool, true, false, _&&_}
-use Prim.Native.Nat.{ℕ, _*_, _≤_, max}
+use mathlib.Core.Bool.{Bool, true, false, not, _&&_, _||_}
+use Prim.Native.Nat.{ℕ, _+_, _*_, _≤_, max}
 use native.Mathlib.Omega.{arith}
 use borrow.Author.Tests.{le-leb, lt-leb, leb-true, leb-false}
 use lib.Dec.{leb}
@@ -12,7 +12,8 @@ use Rattle.rules.specs.declared.Three.{Three}
 use Rattle.rules.specs.declared.Axis.{Axis}
 use Rattle.rules.specs.declared.Axis.the-variants.{X, Y, Z}
 use Rattle.rules.specs.declared.Corner.{Corner}
-use Rattle.rules.specs.Search.{Query, overCorners, least, greatest, survives, corner, excess, width, onAll, largest, unit}
+use Rattle.rules.specs.Numbers.{parts}
+use Rattle.rules.specs.Search.{Query, overCorners, least, greatest, survives, corner, excess, width, onAll, largest, unit, low, inside}
 use Rattle.kernel.specs.declared.Pair.{Pair}
 use Rattle.kernel.specs.Kernel.{asked, onAxis, apartOn}
 use Rattle.kernel.specs.Ranges.{Shallow}
@@ -34,6 +35,14 @@ height-first false true true = refl
 height-first false true false = refl
 height-first false false true = refl
 height-first false false false = refl
+
+-- a half is inside where its low t is not beyond the last moment and it is not outside the face
+abbrev pub inFace : Query → Three → Three → Bool
+inFace q k i = not (q .isFace) || leb (low (k .u) (i .u) + low (k .v) (i .v)) parts
+
+pub inside-is : (q : Query) (k i : Three) → inside q k i ≡ (leb (low (k .t) (i .t)) (q .last) && inFace q k i)
+unfolding inside
+inside-is q k i = refl
 
 -- what is recorded has the excess at its corner
 pub recorded : (q : Query) (k i : Three) (c : Corner) → c ≡ corner q k i → c .excess ≡ excess q k i

@@ -1,13 +1,13 @@
 -- A pair that asks of the written search what a record asks, and that is in range.
 use mathlib.Core.Path.{_≡_, refl, sym, ap, ap₂, _∙_}
-use mathlib.Core.Bool.{Bool, true, false, _&&_}
-use Prim.Native.Nat.{ℕ, _%_, _^_}
+use mathlib.Core.Bool.{Bool, true, false, cond, _&&_}
+use Prim.Native.Nat.{ℕ, _%_, _^_, _≤_}
 use native.Mathlib.Omega.{arith}
 use lib.Dec.{eqb, lit≤}
 use lib.IntN.{pos}
 use Rattle.whole.specs.Within.{within-more}
 use Rattle.rules.specs.declared.Record.{Record}
-use Rattle.rules.specs.Numbers.{limitsOf, half}
+use Rattle.rules.specs.Numbers.{limitsOf, parts, half, lastMoment}
 use Rattle.rules.specs.declared.Axis.{Axis}
 use Rattle.rules.specs.declared.Axis.the-variants.{X, Y, Z}
 use Rattle.rules.specs.Gap.{place, gapOn, isVertexFace, sided, separationOn}
@@ -49,7 +49,12 @@ pairOf r words =
       budget = r .budget;
       room = half words;
       deepest = limitsOf (r .edition) .deepest;
+      last = lastMoment (r .cap);
     }
+
+last-most : (whole : Bool) {cap : ℕ} → cap ≤ 1_048_576 → cond whole parts cap ≤ 1_048_576
+last-most true h = lit≤ tt
+last-most false h = h
 
 module _ (r : Record) (words : ℕ) where
   on-axis : (axis : Axis) → onAxis (pairOf r words) axis ≡ kernelOf (isVertexFace r) (sided r) axis
@@ -76,6 +81,7 @@ module _ (r : Record) (words : ℕ) where
         budget = r .budget;
         room = half words;
         deepest = limitsOf (r .edition) .deepest;
+        last = lastMoment (r .cap);
       }
 
   -- of every edition coordinate and depth limit go together
@@ -109,6 +115,7 @@ module _ (r : Record) (words : ℕ) where
               budget = a .budget-most;
               least-room = omega (arith, h .words-least);
               room = omega (arith, h .words-most);
+              last = last-most (eqb (r .cap) 0) (a .cap);
             };
       }
 

@@ -1,11 +1,13 @@
 // Everything that the search asks about one box of a pair.
 ghost use mathlib.Core.Path.{_≡_};
 ghost use Prim.Native.Nat.{_≤_};
+ghost use Rattle.rules.specs.Numbers.{lastMoment};
 ghost use Rattle.rules.specs.Refusals.{searchRefusal};
-ghost use Rattle.rules.specs.Search.{query, origin, survives, inside, corner, excess, near, split};
+ghost use Rattle.rules.specs.Search.{query, origin, survives, corner, excess, near, split};
 ghost use Rattle.rules.specs.Why.{missed};
 ghost use Rattle.kernel.specs.Kernel.{asked};
 ghost use Rattle.kernel.specs.Ranges.{Ranged, Shallow, InGrid};
+ghost use Rattle.gap.specs.Asked.{inFace};
 ghost use Rattle.gap.specs.Corners.{meets};
 ghost use Rattle.gap.specs.Cube.{wholeCube};
 ghost use Rattle.gap.specs.Points.{Near, kernelBy};
@@ -85,10 +87,10 @@ pub fn missed(p: Pair, k: Three, i: Three) -> Miss
     or_next(x, or_next(y, z))
 }
 
-// Whether a half is kept: for vertex-face its low u plus low v is at most 1.
-pub fn inside(p: Pair, k: Three, i: Three) -> bool
+// Whether a half is not outside the face: for vertex-face its low u plus low v is at most 1. The cap is asked by who halves, on the word.
+pub fn in_face(p: Pair, k: Three, i: Three) -> bool
     requires { ⌜ Shallow 20 k × InGrid k i ⌝ }
-    ensures { λ r. ⌜ r ≡ inside (asked p) k i ⌝ }
+    ensures { λ r. ⌜ r ≡ inFace (asked p) k i ⌝ }
 {
     if p.face {
         low(20, k.u, i.u) + low(20, k.v, i.v) <= PARTS
@@ -150,6 +152,13 @@ pub fn rare_split(p: Pair, k: Three) -> Parameter
     )
 }
 
+// A cap's last moment: 0 is the whole step.
+pub fn last_moment(cap: u32) -> u64
+    ensures { λ r. ⌜ r ≡ lastMoment cap ⌝ }
+{
+    if cap == 0 { PARTS } else { cap as u64 }
+}
+
 // What the search goes by, of a record that is not refused.
 pub fn prepare(r: Record, words: usize) -> Pair
     requires { ⌜ searchRefusal r words ≡ 0 ⌝ }
@@ -166,6 +175,7 @@ pub fn prepare(r: Record, words: usize) -> Pair
     let dz = r.dz as u64;
     let tolerance = r.tolerance as u64;
     let deepest = depth_limit(r.edition);
+    let last = last_moment(r.cap);
     Pair {
         x: x,
         y: y,
@@ -178,5 +188,6 @@ pub fn prepare(r: Record, words: usize) -> Pair
         budget: r.budget,
         room: words / 2,
         deepest: deepest,
+        last: last,
     }
 }

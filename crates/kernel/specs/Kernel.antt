@@ -54,4 +54,5 @@ asked p =
       budget = p .budget;
       room = p .room;
       deepest = p .deepest;
+      last = p .last;
     }

@@ -65,6 +65,7 @@ pub record Ranged (p : Pair) : Type 0 where
   pub budget : p .budget ≤ 1_000_000
   pub least-room : 1 ≤ p .room
   pub room : p .room ≤ 524_288
+  pub last : p .last ≤ 1_048_576
 
 -- depths are at most the depth limit
 pub record Shallow (deepest : ℕ) (k : Three) : Type 0 where

@@ -10,7 +10,8 @@ pub struct Kernel {
     pub c1: i64,
 }
 
-// What the search goes by, as the code holds it: a kernel and a separation an axis, and the record's other numbers. `room` is H, `deepest` the depth limit.
+// What the search goes by, as the code holds it: a kernel and a separation an axis, and the record's other numbers. `room` is H, `deepest` the depth limit,
+// `last` the last moment.
 pub struct Pair {
     pub x: Kernel,
     pub y: Kernel,
@@ -23,4 +24,5 @@ pub struct Pair {
     pub budget: u32,
     pub room: usize,
     pub deepest: u64,
+    pub last: u64,
 }

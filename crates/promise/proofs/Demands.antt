@@ -1,16 +1,23 @@
 -- Demand 3: what specs/Promise.antt states, proved of the written search of every record with every number of words.
 use mathlib.Core.Path.{_≡_, refl, sym, ap, _∙_, subst}
 use Prim.Native.Nat.{ℕ, zero, suc, _*_, _≤_, _<_}
+use native.Mathlib.Nat.{le-trans, le-of-lt, mul-le-mul-right, le-of-mul-le-mul-right}
 use native.Mathlib.Omega.{arith}
+use mathlib.Core.Bool.{Bool, true, false, not}
+use lib.Dec.{T, leb, leb→le, nleb→lt}
 use Rattle.rules.specs.declared.Record.{Record}
 use Rattle.rules.specs.declared.Answer.{Answer}
 use Rattle.rules.specs.declared.Answer.the-variants.{Met, Clear, Spent, Room, Floor, Refused}
-use Rattle.rules.specs.Numbers.{limitsOf}
+use Rattle.rules.specs.Numbers.{limitsOf, parts, half, lastMoment}
+use Rattle.rules.specs.declared.Axis.{Axis}
+use Rattle.rules.specs.declared.Axis.the-variants.{X, Y, Z}
+use Rattle.rules.specs.Gap.{Place, OnBodies, gapOn, isVertexFace, separationOn, sided}
 use Rattle.rules.specs.Answers.{told}
-use Rattle.rules.specs.Refusals.{searchRefusal}
+use Rattle.rules.specs.Refusals.{first, searchRefusal}
 use Rattle.rules.specs.Search.{side, query, run, unless, search}
-use Rattle.promise.specs.Promise.{Clear-is-clear, No-earlier, By-a-margin, There, Within-tolerance, InSides, On-the-grid, Promised, Demand-3, Even, Even-in-edition-3, Refused-exactly}
-use Rattle.promise.proofs.Survive.{touch-close}
+use Rattle.rules.specs.Bodies.{capped}
+use Rattle.promise.specs.Promise.{Clear-is-clear, No-earlier, By-a-margin, There, Not-beyond, Within-tolerance, InSides, On-the-grid, UpToCap, Promised, Demand-3, Even, Even-in-edition-3, Refused-exactly, Whole-step}
+use Rattle.promise.proofs.Survive.{Close, touch-close}
 use Rattle.promise.proofs.Domain.{in-domain, on-bodies}
 use Rattle.promise.proofs.Levels.{Moment, Kept}
 use Rattle.promise.proofs.Accepted.{accepted-kept, run-ended}
@@ -30,21 +37,37 @@ module _ (r : Record) (words : ℕ) where
   moment-promised word t u v excess count not-clear met M =
       record {
         clear-is-clear = λ e. absurd (not-clear e);
-        no-earlier = λ _ m b touch. M .no-earlier m (in-domain r words b) (touch-close (query r words) m (b .positive) touch);
-        by-a-margin = λ m b close. (λ e. absurd (not-clear e), λ _. M .no-earlier m (in-domain r words b) close);
+        no-earlier = λ _ m b touch. earlier m b (touch-close (query r words) m (b .positive) touch);
+        by-a-margin = λ m b close. (λ e. absurd (not-clear e), λ _. earlier m b close);
         there = λ _. (on-bodies r words (M .domain), M .size);
+        not-beyond = λ _. not-late;
         within-tolerance = met;
         on-the-grid = M .sides;
       }
+    where
+      last : ℕ
+      last = lastMoment (r .cap)
+
+      not-late : t ≤ last
+      not-late = le-of-mul-le-mul-right (M .domain .until) (omega arith)
+
+      -- up to the cap nothing comes earlier, and what comes after the cap comes after the answered moment
+      earlier : (m : Place) → OnBodies r m → Close (query r words) m → t * m .q ≤ m .a * parts
+      earlier m b close = go (leb (m .a * parts) (last * m .q)) (λ x. leb→le _ _ x) (λ x. le-of-lt (nleb→lt _ _ x))
+        where
+          go : (c : Bool) → (T c → UpToCap r m) → (T (not c) → last * m .q ≤ m .a * parts) → t * m .q ≤ m .a * parts
+          go true f g = M .no-earlier m (in-domain r words b (f tt)) close
+          go false f g = le-trans (mul-le-mul-right (m .q) not-late) (g tt)
 
   kept-promised : (a : Answer) → Kept (query r words) a → Promised r (told a)
   kept-promised (Met t u v excess n) k = moment-promised 1 t u v excess n (λ e. omega arith) (λ e. k .1) (k .0)
   kept-promised (Clear n) k =
       record {
-        clear-is-clear = λ e m b touch. k m (in-domain r words b) (touch-close (query r words) m (b .positive) touch);
+        clear-is-clear = λ e m b h touch. k m (in-domain r words b h) (touch-close (query r words) m (b .positive) touch);
         no-earlier = λ t. absurd t;
-        by-a-margin = λ m b close. (λ e. k m (in-domain r words b) close, λ t. absurd t);
+        by-a-margin = λ m b close. (λ e h. k m (in-domain r words b h) close, λ t. absurd t);
         there = λ t. absurd t;
+        not-beyond = λ t. absurd t;
         within-tolerance = λ e. absurd (omega arith);
         on-the-grid = untold;
       }
@@ -61,6 +84,7 @@ module _ (r : Record) (words : ℕ) where
         no-earlier = λ t. absurd t;
         by-a-margin = λ m b close. (λ e. absurd (omega arith), λ t. absurd t);
         there = λ t. absurd t;
+        not-beyond = λ t. absurd t;
         within-tolerance = λ e. absurd (omega arith);
         on-the-grid = untold;
       }
@@ -99,6 +123,9 @@ module _ (r : Record) (words : ℕ) (a : Answer) (e : a ≡ search r words) wher
   pub there : There r (told a)
   there = answer-promised r words a e .there
 
+  pub not-beyond : Not-beyond r (told a)
+  not-beyond = answer-promised r words a e .not-beyond
+
   pub within-tolerance : Within-tolerance r (told a)
   within-tolerance = answer-promised r words a e .within-tolerance
 
@@ -119,3 +146,32 @@ refused-exactly r words n = (λ e. there (searchRefusal r words) refl e, λ p. a
     back : (k : ℕ) → 0 < k → unless k (run (query r words)) ≡ Refused k
     back zero h = absurd (omega arith)
     back (suc k) h = refl
+
+-- ---- caps: both are the same question
+same-separation : (r : Record) (axis : Axis) → separationOn (capped 0 r) axis ≡ separationOn (capped parts r) axis
+unfolding capped
+same-separation r X = refl
+same-separation r Y = refl
+same-separation r Z = refl
+
+same-query : (r : Record) (words : ℕ) → query (capped 0 r) words ≡ query (capped parts r) words
+unfolding capped sided
+same-query r words =
+    λ i. record {
+      gap = gapOn (isVertexFace r) (sided r);
+      isFace = isVertexFace r;
+      separation = λ axis. same-separation r axis i;
+      tolerance = r .tolerance;
+      budget = r .budget;
+      room = half words;
+      deepest = limitsOf (r .edition) .deepest;
+      last = parts;
+    }
+
+same-refusal : (r : Record) (words : ℕ) → searchRefusal (capped 0 r) words ≡ searchRefusal (capped parts r) words
+unfolding capped searchRefusal first
+same-refusal r words = refl
+
+pub whole-step : Whole-step
+unfolding search
+whole-step r words = λ i. unless (same-refusal r words i) (run (same-query r words i))

@@ -79,10 +79,10 @@ twice k = ap (λ (n : ℕ). 2 ^ n) (one-more k) ∙ pow-suc 2 k
     one-more : (k : ℕ) → k + 1 ≡ suc k
     one-more k = omega arith
 
-low-grid : (p : Parameter) (k : Depths) (b : Box) → InGrid k b → InGrid (deeper p k) (lowHalf p b)
+pub low-grid : (p : Parameter) (k : Depths) (b : Box) → InGrid k b → InGrid (deeper p k) (lowHalf p b)
 low-grid p k b g = grid-on p (λ i. 2 * i) g (omega (arith, grid-at p g, twice (at p k)))
 
-high-grid : (p : Parameter) (k : Depths) (b : Box) → InGrid k b → InGrid (deeper p k) (highHalf p b)
+pub high-grid : (p : Parameter) (k : Depths) (b : Box) → InGrid k b → InGrid (deeper p k) (highHalf p b)
 high-grid p k b g = grid-on p (λ i. 2 * i + 1) g (omega (arith, grid-at p g, twice (at p k)))
 
 low-up : (p : Parameter) (a b : Box) → Before a b → Before (lowHalf p a) (lowHalf p b)

@@ -1,22 +1,32 @@
--- What the old rules gave, the search of a record with three equal separations gives: OldRules' law. Assumes nothing.
-use Prim.Native.Nat.{ℕ, zero, suc, _+_, _*_, _-_, max}
+-- What the old rules gave, the search of a record with three equal separations and cap 0 gives: OldRules' law. Assumes nothing.
+use Prim.Native.Nat.{ℕ, zero, suc, _+_, _*_, _-_, _≤_, max}
 use mathlib.Core.Path.{_≡_, refl, ap, _∙_}
-use mathlib.Core.Bool.{Bool, true, false, _&&_, _||_, and-true}
-use mathlib.Core.List.{List, [], _∷_}
+use mathlib.Core.Bool.{Bool, true, false, not, cond, _&&_, _||_}
+use mathlib.Core.List.{List, [], _∷_, map}
+use native.Mathlib.Nat.{le-trans}
+use borrow.Author.Tests.{le-leb}
 use native.Mathlib.Omega.{arith}
 use lib.IntN.{pos, negℤ, natAbs}
 use lib.Signed.{leZ}
+use lib.ListN.{length}
 use lib.Dec.{leb, eqb}
 use Rattle.rules.specs.declared.Record.{Record}
 use Rattle.rules.specs.declared.Corner.{Corner}
-use Rattle.rules.specs.Numbers.{limitsOf, parts, isSeparation}
+use Rattle.rules.specs.declared.Parameter.{Parameter}
+use Rattle.rules.specs.Numbers.{limitsOf, parts, isSeparation, isCap, lastMoment}
 use Rattle.rules.specs.declared.Axis.{Axis}
 use Rattle.rules.specs.declared.Axis.the-variants.{X, Y, Z}
 use Rattle.rules.specs.Gap.{separationOn}
 use Rattle.rules.specs.Refusals.{first, searchRefusal}
-use Rattle.rules.specs.Search.{Query, query, Box, Depths, low, unit, least, greatest, onAll, largest, width, roundUp, excess, corner, near, survives, Checked, keep, firstSurvivor, full, oneBox, check, afterLevel, levels, run, origin, unless, search}
+use Rattle.rules.specs.Search.{Query, query, Box, Depths, low, unit, least, greatest, onAll, largest, width, roundUp, excess, corner, near, survives, Checked, keep, firstSurvivor, full, oneBox, check, those, merge, split, deeper, lowHalf, highHalf, inside, halves, ifRoom, afterLevel, levels, run, origin, unless, search}
 use Rattle.rules.specs.QueryFile.{word, recordBy, recordAt}
-use Rattle.promise.specs.OldRules.{oldSurvives, oldExcess, oldCorner, oldNear, oldOneBox, oldCheck, oldLevels, oldRun, oldRefusal, oldSearch, Three-equal, Edition-1-as-before}
+use Rattle.promise.specs.OldRules.{oldSurvives, oldExcess, oldCorner, oldNear, oldOneBox, oldCheck, oldInside, oldHalves, oldAfterLevel, oldLevels, oldRun, oldRefusal, oldSearch, Three-equal, Edition-1-as-before}
+use Rattle.kernel.specs.Ranges.{InGrid, editions-deep}
+use Rattle.promise.proofs.Lists.{Every, every-weaken, those-every, map-every}
+use Rattle.promise.proofs.Split.{Shallow, split-open, deeper-shallow}
+use Rattle.promise.proofs.Domain.{low-parts}
+use Rattle.promise.proofs.Halves.{low-grid, high-grid, halves-grid}
+use Rattle.promise.proofs.First.{Outcome, early, none, met, floor, spent, some, check-first}
 
 -- the largest of three numbers less one is the largest, less it
 largest-less : (f : Axis → ℕ) (m : ℕ) → largest (λ axis. f axis - m) ≡ largest f - m
@@ -60,24 +70,76 @@ module _ (q : Query) (d : ℕ) (e : (axis : Axis) → q .separation axis ≡ d) 
       ap (λ (alive : Bool). oneBox q k box (eqb n (q .budget)) alive seen c n (λ s b. check q k rest s b (n + 1))) (survives-old k box)
       ∙ one-old k box (eqb n (q .budget)) (oldSurvives q d k box) seen c n _ _ (λ s b. check-old k rest s b (n + 1))
 
-  levels-old : (m : ℕ) (k : Depths) (boxes : List Box) (c : Corner) (n : ℕ) → levels m q k boxes c n ≡ oldLevels q d m k boxes c n
-  unfolding levels oldLevels
-  levels-old zero k boxes c n = refl
-  levels-old (suc m) k boxes c n = λ i. afterLevel q k (λ j bs b l. levels-old m j bs b l i) (check-old k boxes false c n i)
+  -- ---- the whole step: no half is beyond it
+  module _ (deep : q .deepest ≤ 20) (whole : q .last ≡ parts) where
+    inside-old : (k : Depths) (b : Box) → k .t ≤ 20 → InGrid k b → inside q k b ≡ oldInside q d k b
+    unfolding inside oldInside
+    inside-old k b h g =
+        ap (λ (x : Bool). x && (not (q .isFace) || leb (low (k .u) (b .u) + low (k .v) (b .v)) parts))
+        (ap (λ (n : ℕ). leb (low (k .t) (b .t)) n) whole ∙ le-leb (low (k .t) (b .t)) parts (low-parts (k .t) (b .t) h (g .t)))
 
-  run-old : run q ≡ oldRun q d
-  unfolding run oldRun
-  run-old = levels-old 61 origin (origin ∷ []) (record { t = 0; u = 0; v = 0; excess = 0 }) 0
+    those-old : (k : Depths) (l : List Box) → k .t ≤ 20 → Every (InGrid k) l → those (inside q k) l ≡ those (oldInside q d k) l
+    unfolding those
+    those-old k [] h g = refl
+    those-old k (b ∷ bs) h g = λ i. cond (inside-old k b h (g .0) i) (b ∷ those-old k bs h (g .1) i) (those-old k bs h (g .1) i)
+
+    halves-old : (p : Parameter) (k : Depths) (l : List Box) → deeper p k .t ≤ 20 → Every (InGrid k) l → halves q (deeper p k) p l ≡ oldHalves q d (deeper p k) p l
+    unfolding halves oldHalves
+    halves-old p k l h g =
+        λ i. merge
+        (those-old (deeper p k) (map (lowHalf p) l) h (map-every (InGrid k) (InGrid (deeper p k)) (lowHalf p) (λ b. low-grid p k b) l g) i)
+        (those-old (deeper p k) (map (highHalf p) l) h (map-every (InGrid k) (InGrid (deeper p k)) (highHalf p) (λ b. high-grid p k b) l g) i)
+
+    -- l are the survivors; `next`: the levels after this one
+    after-old : (m : ℕ) (k : Depths) (c : Corner) (n boxes : ℕ) (l : List Box) (r : Checked) → Outcome q k c n boxes l r → Shallow q k → Every (InGrid k) l
+        → ((k' : Depths) (new : List Box) (c' : Corner) (n' : ℕ) → Shallow q k' → Every (InGrid k') new → levels m q k' new c' n' ≡ oldLevels q d m k' new c' n')
+        → afterLevel q k (levels m q) r ≡ oldAfterLevel q d k (oldLevels q d m) r
+    unfolding afterLevel oldAfterLevel
+    after-old m k c n boxes l r (early i h f) s g next = refl
+    after-old m k c n boxes l r (none i) s g next = refl
+    after-old m k c n boxes l r (met b bs i h) s g next = refl
+    after-old m k c n boxes l r (floor b bs i h) s g next = refl
+    after-old m k c n boxes l r (spent b bs i) s g next = refl
+    after-old m k c n boxes l r (some b bs i h) s g next =
+        (λ j. ifRoom (leb (length new) (q .room)) (corner q k b) i (λ c' n'. next (deeper p k) new c' n' still grid j))
+        ∙ ap (λ (bs' : List Box). ifRoom (leb (length bs') (q .room)) (corner q k b) i (oldLevels q d m (deeper p k) bs')) (halves-old p k (b ∷ bs) (le-trans (still .t) deep) g)
+      where
+        p : Parameter
+        p = split q k
+
+        new : List Box
+        new = halves q (deeper p k) p (b ∷ bs)
+
+        still : Shallow q (deeper p k)
+        still = deeper-shallow q k s h p (split-open q k s h)
+
+        grid : Every (InGrid (deeper p k)) new
+        grid = every-weaken (λ b x. x .0) new (halves-grid q k p (b ∷ bs) g)
+
+    levels-old : (m : ℕ) (k : Depths) (boxes : List Box) (c : Corner) (n : ℕ) → Shallow q k → Every (InGrid k) boxes → levels m q k boxes c n ≡ oldLevels q d m k boxes c n
+    unfolding levels oldLevels
+    levels-old zero k boxes c n s g = refl
+    levels-old (suc m) k boxes c n s g =
+        after-old m k c n (length boxes) (those (survives q k) boxes) (check q k boxes false c n) (check-first q k boxes c n) s
+        (every-weaken (λ b x. x .0) (those (survives q k) boxes) (those-every (InGrid k) (survives q k) boxes g))
+        (λ k' new c' n' s' g'. levels-old m k' new c' n' s' g')
+        ∙ ap (λ (r : Checked). oldAfterLevel q d k (oldLevels q d m) r) (check-old k boxes false c n)
+
+    run-old : run q ≡ oldRun q d
+    unfolding run oldRun
+    run-old =
+        levels-old 61 origin (origin ∷ []) (record { t = 0; u = 0; v = 0; excess = 0 }) 0
+        (record { t = omega arith; u = omega arith; v = omega arith }) (record { t = omega arith; u = omega arith; v = omega arith }, tt)
 
 -- ---- a record
-module _ (r : Record) (d words : ℕ) (x : r .dx ≡ d) (y : r .dy ≡ d) (z : r .dz ≡ d) (spare : r .spare ≡ 0) (limits : limitsOf (r .edition) ≡ limitsOf 1) where
+module _ (r : Record) (d words : ℕ) (x : r .dx ≡ d) (y : r .dy ≡ d) (z : r .dz ≡ d) (cap : r .cap ≡ 0) (limits : limitsOf (r .edition) ≡ limitsOf 1) where
   separation-old : (axis : Axis) → separationOn r axis ≡ d
   separation-old X = x
   separation-old Y = y
   separation-old Z = z
 
-  flags-old : (leb (r .flags) 1 && eqb (r .byte2) 0 && eqb (r .byte3) 0 && eqb (r .spare) 0) ≡ (leb (r .flags) 1 && eqb (r .byte2) 0 && eqb (r .byte3) 0)
-  flags-old = ap (λ (n : ℕ). leb (r .flags) 1 && eqb (r .byte2) 0 && eqb (r .byte3) 0 && eqb n 0) spare ∙ and-true _
+  cap-old : isCap (r .cap) ≡ true
+  cap-old = ap isCap cap
 
   three : (b : Bool) → (b && b && b) ≡ b
   three true = refl
@@ -88,14 +150,14 @@ module _ (r : Record) (d words : ℕ) (x : r .dx ≡ d) (y : r .dy ≡ d) (z : r
 
   refusal-old : searchRefusal r words ≡ oldRefusal r d words
   unfolding searchRefusal oldRefusal first
-  refusal-old = rw (limits, flags-old, range-old)
+  refusal-old = rw (limits, cap-old, range-old)
 
   search-old : search r words ≡ oldSearch r d words
   unfolding search oldSearch
-  search-old = λ i. unless (refusal-old i) (run-old (query r words) d separation-old i)
+  search-old = λ i. unless (refusal-old i) (run-old (query r words) d separation-old (editions-deep (eqb (r .edition) 3)) (ap lastMoment cap) i)
 
 pub three-equal : Three-equal
-three-equal r d words x y z spare limits = search-old r d words x y z spare limits
+three-equal r d words x y z cap limits = search-old r d words x y z cap limits
 
 pub edition-1-as-before : Edition-1-as-before
 unfolding recordBy

@@ -1,4 +1,4 @@
--- The promises say enough: the answers that need no search are ruled out. And no more than is so: berth examples reach each of the four.
+-- The promises say enough: the answers that need no search are ruled out. And no more than is so: berth examples reach each of them.
 use mathlib.Core.Path.{_≡_, refl}
 use mathlib.Core.List.{_++_}
 use Prim.Native.Nat.{ℕ, _*_, _-_, _≤_, _<_}
@@ -15,7 +15,7 @@ use Rattle.rules.specs.declared.Axis.the-variants.{X, Y, Z}
 use Rattle.rules.specs.Gap.{Place, OnBodies, Contact, moving, vertexFace, edgeEdge, gapOn, negateFrom, sided}
 use Rattle.rules.specs.Refusals.{first, every, searchRefusal}
 use Rattle.rules.specs.Search.{search, run, levels, afterLevel, ifRoom, halves, merge, takeIn, notAfter, those, inside, split, winner, spread, check, oneBox, near, firstSurvivor, corner, excess, width, survives, least, greatest, overCorners, unless}
-use Rattle.rules.specs.Berth.{asked, point, still, below-flag, falling, T as face, P-T}
+use Rattle.rules.specs.Berth.{asked, upTo, minus, point, past-T, still, below-flag, falling, T as face, P-T}
 use Rattle.promise.specs.Promise.{answered, Within, Promised}
 
 abbrev at : ℕ → ℕ → ℕ → ℕ → Place
@@ -38,7 +38,7 @@ meets-contact Z = omega arith
 
 -- not CLEAR whatever is asked
 pub not-always-clear : (n : ℕ) → Promised falls (told (Clear n)) → ⊥
-not-always-clear n p = p .clear-is-clear refl (at 4 2 1 1) meets meets-contact
+not-always-clear n p = p .clear-is-clear refl (at 4 2 1 1) meets (omega arith) meets-contact
 
 -- not MET at 0 whatever is asked
 pub not-always-met : (e n : ℕ) → Promised falls (told (Met 0 0 0 e n)) → ⊥
@@ -109,6 +109,43 @@ unfolding gapOn vertexFace edgeEdge moving negateFrom sided
 not-off-the-face f = f beside 4096 (Clear 10) (rows .2) refl (at 8 0 5 5) (omega arith) (omega arith) (omega arith) (omega arith) contact
   where
     contact : Contact beside (at 8 0 5 5)
+    contact X = omega arith
+    contact Y = omega arith
+    contact Z = omega arith
+
+-- ---- caps (document 02, R-7)
+
+-- it comes to the face two parts after the cap 262,143, and that is CLEAR: up to 262,144, the next line of the grid, it is above
+abbrev late : Record
+late =
+    record { kind = 1; flags = 0; byte2 = 0; byte3 = 0; id = 1; dx = 0; dy = 0; dz = 0; tolerance = 16; budget = 1000; cap = 262143; edition = 2; points = past-T (point (pos 0) (pos 0) (pos 262145)) (point (pos 0) (pos 0) (minus 786431)) }
+
+late-row : Clear 3 ≡ search late 4096
+unfolding search run levels afterLevel ifRoom halves merge takeIn notAfter those inside split winner spread check oneBox near firstSurvivor corner excess width survives least greatest overCorners unless first every searchRefusal moving vertexFace edgeEdge gapOn negateFrom sided
+late-row = refl
+
+-- so CLEAR promises nothing of the whole step
+pub not-beyond-the-cap : OfEvery (λ r a. a .word ≡ 2 → (m : Place) → OnBodies r m → Contact r m → ⊥) → ⊥
+unfolding gapOn vertexFace edgeEdge moving negateFrom sided
+not-beyond-the-cap f = f late 4096 (Clear 3) late-row refl (at parts 262145 262144 262144) here contact
+  where
+    here : OnBodies late (at parts 262145 262144 262144)
+    here = record { positive = omega arith; t = omega arith; u = omega arith; v = omega arith; face = λ _. omega arith }
+
+    contact : Contact late (at parts 262145 262144 262144)
+    contact X = omega arith
+    contact Y = omega arith
+    contact Z = omega arith
+
+-- a contact at the cap itself is ruled out by CLEAR: of the first berth example with the cap 524,288 no CLEAR is promised
+pub not-clear-at-the-cap : (n : ℕ) → Promised (upTo 16 1000 524288) (told (Clear n)) → ⊥
+unfolding gapOn vertexFace edgeEdge moving negateFrom sided
+not-clear-at-the-cap n p = p .clear-is-clear refl (at 4 2 1 1) here (omega arith) contact
+  where
+    here : OnBodies (upTo 16 1000 524288) (at 4 2 1 1)
+    here = record { positive = omega arith; t = omega arith; u = omega arith; v = omega arith; face = λ _. omega arith }
+
+    contact : Contact (upTo 16 1000 524288) (at 4 2 1 1)
     contact X = omega arith
     contact Y = omega arith
     contact Z = omega arith

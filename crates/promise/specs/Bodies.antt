@@ -1,8 +1,10 @@
--- What an answer about two bodies promises (document 02, R-6). Read `Body`, `askOf` and `bodySearch` in rules/specs/Bodies.antt and Promise.antt here,
+-- What an answer about two bodies promises (document 02, R-6, with the caps of R-7). Read `Body`, `askOf` and `bodySearch` in rules/specs/Bodies.antt and Promise.antt here,
 -- then this page; no more is needed. proofs/Bodies/Promised.antt proves `Demand-bodies` and `Bodies-refused-exactly`.
 use Prim.Native.Nat.{ℕ, _+_, _*_, _-_, _≤_, _<_}
 use mathlib.Core.Path.{_≡_}
 use mathlib.Core.Logic.{_↔_}
+use mathlib.Core.Bool.{false}
+use lib.ListN.{take}
 use lib.Dec.{T}
 use Rattle.rules.specs.declared.Record.{Record}
 use Rattle.rules.specs.declared.Terms.{Terms}
@@ -14,7 +16,7 @@ use Rattle.rules.specs.Numbers.{parts}
 use Rattle.rules.specs.Gap.{Place, OnBodies, Contact}
 use Rattle.rules.specs.Answers.{told, hasMoment}
 use Rattle.rules.specs.Search.{search}
-use Rattle.rules.specs.Bodies.{Body, A1, A2, A3, B1, B2, B3, face, edges, askOf, bodyRefusal, bodySearch}
+use Rattle.rules.specs.Bodies.{Body, A1, A2, A3, B1, B2, B3, face, edges, askOf, queriesOf, capOf, capped, isOver, hearAll, bodyRefusal, bodySearch}
 use Rattle.triangles.specs.Members.{askAt}
 use Rattle.promise.specs.Promise.{Within, NearContact}
 
@@ -79,6 +81,18 @@ numbered w a b i j query = askOf w a b i j (askAt (query - 1))
 abbrev pub placeOf : Body → ℕ → ℕ → ℕ → ℕ
 placeOf b i j query = 15 * (b .count * i + j) + query
 
+-- what the walk has heard before a place
+abbrev pub before : Terms → Body → Body → ℕ → ℕ → BodyAnswer
+before w a b words place = hearAll words (Clear 0) (take (place - 1) (queriesOf w a b))
+
+-- "each query takes the least time so far as its cap" (document 02, R-7): a query as the walk asks it
+abbrev pub walked : Terms → Body → Body → ℕ → ℕ → ℕ → ℕ → Record
+walked w a b words i j query = capped (capOf (before w a b words (placeOf b i j query))) (numbered w a b i j query)
+
+-- "0 time ends the walk": the queries that are asked
+abbrev pub IsAsked : Terms → Body → Body → ℕ → ℕ → ℕ → ℕ → Type 0
+IsAsked w a b words i j query = isOver (before w a b words (placeOf b i j query)) ≡ false
+
 -- a query's own search answers this, and by demand 3 the bodies are that near there
 pub record Own (r : Record) (words t word excess : ℕ) : Type 0 where
   pub a-moment : T (hasMoment (told (search r words)))
@@ -95,11 +109,13 @@ pub record Own (r : Record) (words t word excess : ℕ) : Type 0 where
 abbrev pub First : ℕ → ℕ → Told → ℕ → Type 0
 First t place r place′ = T (hasMoment r) → (t ≤ r .t) × (r .t ≤ t → place ≤ place′)
 
--- "the least time among the answers that have one, with the first pair and query that has it, its word, excess"
+-- "the least time among the answers that have one, with the first pair and query that has it, its word, excess", of the queries asked and as they are asked
 pub record Held (w : Terms) (a b : Body) (words t i j query word excess : ℕ) : Type 0 where
   pub named : Named a b i j query
-  pub own : Own (numbered w a b i j query) words t word excess
-  pub first : (i′ j′ query′ : ℕ) → Named a b i′ j′ query′ → First t (placeOf b i j query) (told (search (numbered w a b i′ j′ query′) words)) (placeOf b i′ j′ query′)
+  pub is-asked : IsAsked w a b words i j query
+  pub own : Own (walked w a b words i j query) words t word excess
+  pub first : (i′ j′ query′ : ℕ) → Named a b i′ j′ query′ → IsAsked w a b words i′ j′ query′
+      → First t (placeOf b i j query) (told (search (walked w a b words i′ j′ query′) words)) (placeOf b i′ j′ query′)
 
 abbrev pub Holder : Terms → Body → Body → ℕ → BodyAnswer → Type 0
 Holder w a b words (Clear sum) = Unit {0}

@@ -1,19 +1,21 @@
--- Document 01 as it stood before document 02, R-4: one separation d for all axes. It stands here for the law at the end of this page, and nowhere else;
--- proofs/Old.antt proves it. What R-4 left alone is cited from `rules`.
+-- Document 01 as it stood before document 02, R-4 and R-7: one separation d for all axes, and no cap. It stands here for the laws at the end of this page, and
+-- nowhere else; proofs/Old.antt proves them. What R-4 and R-7 left alone is cited from `rules`.
 use Prim.Native.Nat.{ℕ, zero, suc, _+_, _*_, _-_}
 use mathlib.Core.Path.{_≡_}
 use mathlib.Core.Bool.{Bool, true, false, not, _&&_, _||_}
-use mathlib.Core.List.{List, [], _∷_}
+use mathlib.Core.List.{List, [], _∷_, map}
 use lib.IntN.{pos, negℤ, natAbs}
 use lib.Signed.{leZ}
+use lib.ListN.{length}
 use lib.Dec.{leb, eqb}
 use Rattle.rules.specs.declared.Record.{Record}
 use Rattle.rules.specs.declared.Corner.{Corner}
+use Rattle.rules.specs.declared.Parameter.{Parameter}
 use Rattle.rules.specs.declared.Answer.{Answer}
-use Rattle.rules.specs.declared.Answer.the-variants.{Spent, Refused}
+use Rattle.rules.specs.declared.Answer.the-variants.{Clear, Spent, Refused}
 use Rattle.rules.specs.Numbers.{limitsOf, parts, isCoordinate, isSeparation, isTolerance, isBudget, isQueue}
 use Rattle.rules.specs.Refusals.{first, every}
-use Rattle.rules.specs.Search.{Query, query, Box, Depths, low, unit, least, greatest, onAll, largest, width, roundUp, withCount, Checked, answered, through, keep, firstSurvivor, full, afterLevel, origin, unless, search}
+use Rattle.rules.specs.Search.{Query, query, Box, Depths, low, unit, least, greatest, onAll, largest, width, roundUp, withCount, Checked, answered, through, keep, firstSurvivor, full, split, deeper, lowHalf, highHalf, those, merge, ifRoom, origin, unless, search}
 use Rattle.rules.specs.QueryFile.{word, recordAt}
 
 -- ---- a question q with one separation d: q's own separations are not looked at
@@ -49,14 +51,29 @@ module _ (q : Query) (d : ℕ) where
   oldCheck k (box ∷ rest) seen c n =
       oldOneBox k box (eqb n (q .budget)) (oldSurvives k box) seen c n (λ s e. oldCheck k rest s e (n + 1))
 
+  -- "For vertex-face a half whose low u plus low v exceeds 1 is dropped and never counted; equal to 1 stays."
+  unfoldable pub oldInside : Depths → Box → Bool
+  oldInside k box = not (q .isFace) || leb (low (k .u) (box .u) + low (k .v) (box .v)) parts
+
+  unfoldable pub oldHalves : Depths → Parameter → List Box → List Box
+  oldHalves k p boxes = merge (those (oldInside k) (map (lowHalf p) boxes)) (those (oldInside k) (map (highHalf p) boxes))
+
+  unfoldable pub oldAfterLevel : Depths → (Depths → List Box → Corner → ℕ → Answer) → Checked → Answer
+  oldAfterLevel k go (answered a) = a
+  oldAfterLevel k go (through n c []) = Clear n
+  oldAfterLevel k go (through n c (box ∷ rest)) =
+      let p : Parameter = split q k in
+      let new : List Box = oldHalves (deeper p k) p (box ∷ rest) in
+      ifRoom (leb (length new) (q .room)) c n (go (deeper p k) new)
+
   unfoldable pub oldLevels : ℕ → Depths → List Box → Corner → ℕ → Answer
   oldLevels zero k boxes c n = Refused 0
-  oldLevels (suc m) k boxes c n = afterLevel q k (oldLevels m) (oldCheck k boxes false c n)
+  oldLevels (suc m) k boxes c n = oldAfterLevel k (oldLevels m) (oldCheck k boxes false c n)
 
   unfoldable pub oldRun : Answer
   oldRun = oldLevels 61 origin (origin ∷ []) (record { t = 0; u = 0; v = 0; excess = 0 }) 0
 
--- ---- the search of a record with one separation and no word at 28: those of r are not looked at
+-- ---- the search of a record with one separation and no cap: those of r are not looked at
 
 -- rows 1 to 7 of document 01's table
 unfoldable pub oldRefusal : Record → ℕ → ℕ → ℕ
@@ -76,9 +93,9 @@ oldSearch r d words = unless (oldRefusal r d words) (oldRun (query r words) d)
 
 -- ---- "An edition 1 record means three equal separations." (document 02, R-4)
 
--- a record with three equal separations is answered as the old rules answer it with that one
+-- a record with three equal separations and cap 0 is answered as the old rules answer it with that one
 abbrev pub Three-equal : Type 0
-Three-equal = (r : Record) (d words : ℕ) → r .dx ≡ d → r .dy ≡ d → r .dz ≡ d → r .spare ≡ 0 → limitsOf (r .edition) ≡ limitsOf 1 → search r words ≡ oldSearch r d words
+Three-equal = (r : Record) (d words : ℕ) → r .dx ≡ d → r .dy ≡ d → r .dz ≡ d → r .cap ≡ 0 → limitsOf (r .edition) ≡ limitsOf 1 → search r words ≡ oldSearch r d words
 
 -- so is an edition 1 record wherever it stands, with its "separation (8)"
 abbrev pub Edition-1-as-before : Type 0

@@ -25,6 +25,7 @@ use Rattle.rules.specs.Answers.{told, hasMoment}
 use Rattle.rules.specs.Refusals.{searchRefusal}
 use Rattle.rules.specs.Search.{Query, query, Box, Depths, low, high, unit, least, greatest, survives, Checked, answered, through, check, split, deeper, halves, origin, levels, run, search}
 use Rattle.rules.specs.Why.{wholeDomain, halfOf, whyRefusal, whySearch}
+use Rattle.promise.specs.Promise.{UpToCap}
 
 -- ---- places and boxes
 
@@ -131,15 +132,15 @@ pub record First (q : Query) (at : Three) (x : Reason) : Type 0 where
 abbrev pub Names-the-first : Type 0
 Names-the-first = (r : Record) (words : ℕ) (at : Three) (x : Reason) → whySearch r words at ≡ Discarded x → First (query r words) at x
 
--- "before the answered time (or anywhere under CLEAR)"
+-- "before the answered time (or anywhere up to the cap under CLEAR)": what the cap leaves is asked beside it
 abbrev pub NotYet : Told → Three → Type 0
 NotYet a at = (a .word ≡ 2) ⊎ (T (hasMoment a) × (at .t < a .t))
 
--- every such point of the bodies has its box, and no other has
+-- every such point of the bodies up to the cap has its box, and no other has
 abbrev pub Named-exactly : Type 0
 Named-exactly =
     (r : Record) (words : ℕ) (at : Three)
-    → ((x : Reason) × (whySearch r words at ≡ Discarded x)) ↔ ((searchRefusal r words ≡ 0) × OnBodies r (pointed at) × NotYet (told (search r words)) at)
+    → ((x : Reason) × (whySearch r words at ≡ Discarded x)) ↔ ((searchRefusal r words ≡ 0) × OnBodies r (pointed at) × UpToCap r (pointed at) × NotYet (told (search r words)) at)
 
 -- refused with n exactly when n is the search's own, or else 23 or 24, in that order
 abbrev pub Why-refused-exactly : Type 0

@@ -27,11 +27,11 @@ use Rattle.queries.specs.Writing.{WriteRoom}
 
 -- ---- records that a program holds
 
--- what an edition 1 record can say: three equal separations, and nothing at 28
+-- what an edition 1 record can say: three equal separations, and no cap
 pub record Narrow (r : Record) : Type 0 where
   pub dy : r .dx ≡ r .dy
   pub dz : r .dx ≡ r .dz
-  pub spare : 0 ≡ r .spare
+  pub cap : 0 ≡ r .cap
 
 -- each field fits its type; narrow, it has no more to say than there is room for
 pub record Held (wide : Bool) (r : Record) : Type 0 where
@@ -45,7 +45,7 @@ pub record Held (wide : Bool) (r : Record) : Type 0 where
   pub dz : r .dz < 4294967296
   pub tolerance : r .tolerance < 4294967296
   pub budget : r .budget < 4294967296
-  pub spare : r .spare < 4294967296
+  pub cap : r .cap < 4294967296
   pub count : length (r .points) ≡ 24
   pub points : Each (r .points)
   pub narrow : wide ≡ false → Narrow r
@@ -76,7 +76,7 @@ held wide r a w i n =
       dz = omega (arith, a .dz);
       tolerance = omega (arith, a .tolerance-most);
       budget = omega (arith, a .budget-most);
-      spare = omega (arith, a .spare);
+      cap = omega (arith, a .cap);
       count = n;
       points = each (r .points) (λ i. le-trans (a .coordinate i) (in-all (eqb (r .edition) 3)));
       narrow = w;
@@ -84,16 +84,16 @@ held wide r a w i n =
 
 -- what a writer does not refuse is such
 pub narrow : {edition : ℕ} {s : List ℕ} {at : ℕ} (r : Record) → WriteRoom edition s at r → isWide edition ≡ false → Narrow (inEdition edition r)
-narrow {edition} r w e = go (eqb edition 1) (eqb edition 2) (eqb edition 3) e (w .named) (w .separations)
+narrow {edition} r w e = go (eqb edition 1) (eqb edition 2) (eqb edition 3) e (w .named) (w .separations) (w .capped)
   where
     equal : Bool
     equal = eqb (r .dx) (r .dy) && eqb (r .dx) (r .dz)
 
-    go : (one two three : Bool) → (two || three) ≡ false → (one || two || three) ≡ true → (not one || equal) ≡ true → Narrow (inEdition edition r)
-    go true two three f g k =
+    go : (one two three : Bool) → (two || three) ≡ false → (one || two || three) ≡ true → (not one || equal) ≡ true → (not one || eqb (r .cap) 0) ≡ true → Narrow (inEdition edition r)
+    go true two three f g k l =
         let h = and-eq-true-iff (eqb (r .dx) (r .dy)) (eqb (r .dx) (r .dz)) .0 k in
-        record { dy = eqb-true (r .dx) (r .dy) (h .0); dz = eqb-true (r .dx) (r .dz) (h .1); spare = sym (w .accepted .spare) }
-    go false two three f g k = let z : _≡_ {A = Bool} true false = sym g ∙ f in let y : _≡_ {A = ℕ} 0 1 = cc in absurd (omega arith)
+        record { dy = eqb-true (r .dx) (r .dy) (h .0); dz = eqb-true (r .dx) (r .dz) (h .1); cap = sym (eqb-true (r .cap) 0 l) }
+    go false two three f g k l = let z : _≡_ {A = Bool} true false = sym g ∙ f in let y : _≡_ {A = ℕ} 0 1 = cc in absurd (omega arith)
 
 -- as one of an edition it is held too
 pub as-one : {wide : Bool} {r : Record} (edition : ℕ) → Held wide r → Held wide (inEdition edition r)
@@ -109,10 +109,10 @@ as-one edition h =
       dz = h .dz;
       tolerance = h .tolerance;
       budget = h .budget;
-      spare = h .spare;
+      cap = h .cap;
       count = h .count;
       points = h .points;
-      narrow = λ e. let w = h .narrow e in record { dy = w .dy; dz = w .dz; spare = w .spare };
+      narrow = λ e. let w = h .narrow e in record { dy = w .dy; dz = w .dz; cap = w .cap };
     }
 
 -- ---- a record that stands in bytes
@@ -131,7 +131,7 @@ read-held true edition s at b =
       dz = word-lt s b (at + 16);
       tolerance = word-lt s b (at + 20);
       budget = word-lt s b (at + 24);
-      spare = word-lt s b (at + 28);
+      cap = word-lt s b (at + 28);
       count = h .0;
       points = h .1;
       narrow = λ e. let z : _≡_ {A = ℕ} 0 1 = cc in absurd (omega arith);
@@ -149,8 +149,8 @@ read-held false edition s at b =
       dz = word-lt s b (at + 8);
       tolerance = word-lt s b (at + 12);
       budget = word-lt s b (at + 16);
-      spare = omega arith;
+      cap = omega arith;
       count = h .0;
       points = h .1;
-      narrow = λ e. record { dy = refl; dz = refl; spare = refl };
+      narrow = λ e. record { dy = refl; dz = refl; cap = refl };
     }

@@ -40,7 +40,7 @@ front true r t h =
     let e2z : word l 16 ≡ r .dz = word-at l _ 16 (r .dz) refl (h .dz) in
     let e3 : word l 20 ≡ r .tolerance = word-at l _ 20 (r .tolerance) refl (h .tolerance) in
     let e4 : word l 24 ≡ r .budget = word-at l _ 24 (r .budget) refl (h .budget) in
-    let e6 : word l 28 ≡ r .spare = word-at l _ 28 (r .spare) refl (h .spare) in
+    let e6 : word l 28 ≡ r .cap = word-at l _ 28 (r .cap) refl (h .cap) in
     let e5 : coordinatesAt l 32 24 ≡ r .points =
     sym (coordinates-drop 24 l 32 0) ∙ ap (λ (n : ℕ). coordinatesAt (coordinateBytes (r .points) ++ t) 0 n) (sym (h .count)) ∙ coordinates-back (r .points) t (h .points) in
     λ i. record {
@@ -54,7 +54,7 @@ front true r t h =
       dz = e2z i;
       tolerance = e3 i;
       budget = e4 i;
-      spare = e6 i;
+      cap = e6 i;
       edition = r .edition;
       points = e5 i;
     }
@@ -65,7 +65,7 @@ front false r t h =
     let e2 : word l 8 ≡ r .dx = word-at l _ 8 (r .dx) refl (h .dx) in
     let e2y : word l 8 ≡ r .dy = e2 ∙ w .dy in
     let e2z : word l 8 ≡ r .dz = e2 ∙ w .dz in
-    let e6 : 0 ≡ r .spare = w .spare in
+    let e6 : 0 ≡ r .cap = w .cap in
     let e3 : word l 12 ≡ r .tolerance = word-at l _ 12 (r .tolerance) refl (h .tolerance) in
     let e4 : word l 16 ≡ r .budget = word-at l _ 16 (r .budget) refl (h .budget) in
     let e5 : coordinatesAt l 20 24 ≡ r .points =
@@ -81,7 +81,7 @@ front false r t h =
       dz = e2z i;
       tolerance = e3 i;
       budget = e4 i;
-      spare = e6 i;
+      cap = e6 i;
       edition = r .edition;
       points = e5 i;
     }

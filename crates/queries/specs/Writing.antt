@@ -19,7 +19,7 @@ use Rattle.rules.specs.declared.Form.{Form}
 use Rattle.rules.specs.declared.Wrote.{Wrote}
 use Rattle.rules.specs.declared.Wrote.the-variants.{Done, Refused}
 use Rattle.rules.specs.Refusals.{Case, first, casesWith}
-use Rattle.rules.specs.QueryFile.{isEdition, isWide, sizeBy, recordSize, queryForm, put, noEdition, space, hasRoom, inEdition, writeRefusal, trailerRefusal, queryTrailerRefusal, wroteUnless, putUnless, Written}
+use Rattle.rules.specs.QueryFile.{isEdition, isWide, sizeBy, recordSize, queryForm, put, noEdition, space, hasRoom, hasCapRoom, inEdition, writeRefusal, trailerRefusal, queryTrailerRefusal, wroteUnless, putUnless, Written}
 use Rattle.refusals.specs.Cases.{firstOr, first-append, not-due}
 use Rattle.refusals.specs.Accepted.{Accepted, accepted-with}
 
@@ -42,6 +42,7 @@ module _ (n : ℕ) (s : List ℕ) (at : ℕ) (bytes : List ℕ) where
 pub record WriteRoom (edition : ℕ) (s : List ℕ) (at : ℕ) (r : Record) : Type 0 where
   pub accepted : Accepted (inEdition edition r)
   pub separations : hasRoom edition r ≡ true
+  pub capped : hasCapRoom edition r ≡ true
   pub named : isEdition edition ≡ true
   pub room : at + recordSize edition ≤ length s
 
@@ -49,17 +50,17 @@ module _ (edition : ℕ) (s : List ℕ) (at : ℕ) (r : Record) where
   behind : List Case
   behind = noEdition edition ∷ space s at (recordSize edition) ∷ []
 
-  pub write-is : writeRefusal edition s at r ≡ firstOr (casesWith (hasRoom edition r) (inEdition edition r)) (cond (not (isEdition edition)) 10 (cond (ltb (length s - at) (recordSize edition)) 14 0))
+  pub write-is : writeRefusal edition s at r ≡ firstOr (casesWith (hasRoom edition r) (hasCapRoom edition r) (inEdition edition r)) (cond (not (isEdition edition)) 10 (cond (ltb (length s - at) (recordSize edition)) 14 0))
   unfolding writeRefusal first behind
-  write-is = first-append (casesWith (hasRoom edition r) (inEdition edition r)) behind
+  write-is = first-append (casesWith (hasRoom edition r) (hasCapRoom edition r) (inEdition edition r)) behind
 
   pub write-room : writeRefusal edition s at r ≡ 0 → WriteRoom edition s at r
   unfolding writeRefusal behind
   write-room e =
-      let h = accepted-with (hasRoom edition r) (inEdition edition r) behind e in
-      let ten = not-due 9 (not (isEdition edition)) (space s at (recordSize edition) ∷ []) (h .2) in
+      let h = accepted-with (hasRoom edition r) (hasCapRoom edition r) (inEdition edition r) behind e in
+      let ten = not-due 9 (not (isEdition edition)) (space s at (recordSize edition) ∷ []) (h .3) in
       let l = ltb-false (length s - at) (recordSize edition) (not-due 13 (ltb (length s - at) (recordSize edition)) [] (ten .1) .0) in
-      record { accepted = h .0; separations = h .1; named = not-false _ (ten .0); room = fits (isWide edition) (length s) l }
+      record { accepted = h .0; separations = h .1; capped = h .2; named = not-false _ (ten .0); room = fits (isWide edition) (length s) l }
     where
       fits : (wide : Bool) (n : ℕ) → sizeBy wide ≤ n - at → at + sizeBy wide ≤ n
       fits true n h = omega arith

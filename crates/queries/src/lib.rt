@@ -2,7 +2,7 @@
 ghost use mathlib.Core.Path.{_≡_};
 ghost use Prim.Native.Nat.{_+_, _-_, _*_, _≤_};
 ghost use lib.ListN.{length, getD};
-ghost use Rattle.rules.specs.QueryFile.{recordBytes, trailerBytes, queryForm, editionOf, fileForm, put, opened, fetched, noRecord, hasRoom, inEdition, writeRefusal, trailerRefusal, queryTrailerRefusal, Written};
+ghost use Rattle.rules.specs.QueryFile.{recordBytes, trailerBytes, queryForm, editionOf, fileForm, put, opened, fetched, noRecord, hasRoom, hasCapRoom, inEdition, writeRefusal, trailerRefusal, queryTrailerRefusal, Written};
 use little::read_u32;
 use little::stands4;
 use little::write_u32;
@@ -127,7 +127,7 @@ fn no_record() -> Record
         dz: 0,
         tolerance: 0,
         budget: 0,
-        spare: 0,
+        cap: 0,
         edition: 1,
         points,
     }
@@ -171,6 +171,13 @@ fn has_room(edition: u8, r: Record) -> bool
     !(edition == 1) | (r.dx == r.dy) & (r.dx == r.dz)
 }
 
+// Whether a record of the edition has room for the cap: edition 1 holds none.
+fn has_cap_room(edition: u8, r: Record) -> bool
+    ensures { λ b. ⌜ b ≡ hasCapRoom edition r ⌝ }
+{
+    !(edition == 1) | (r.cap == 0)
+}
+
 // The record as one of the edition.
 fn in_edition(edition: u8, r: Record) -> Record
     ensures { λ q. ⌜ q ≡ inEdition edition r ⌝ }
@@ -187,7 +194,12 @@ pub fn write_record(s: &mut [u8], at: usize, edition: u8, r: Record) -> Wrote
     let size = record_size(edition) as usize;
     let fourteen = first(left_from(s.len(), at) < size, 14, 0);
     let ten = first(!is_edition(edition), 10, fourteen);
-    let number = refusal_with(has_room(edition, r), in_edition(edition, r), ten);
+    let number = refusal_with(
+        has_room(edition, r),
+        has_cap_room(edition, r),
+        in_edition(edition, r),
+        ten,
+    );
     if number != 0 {
         return Wrote::Refused(number);
     }

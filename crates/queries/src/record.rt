@@ -82,7 +82,7 @@ fn decode_narrow(s: &[u8], at: usize, edition: u8, points: [i32; 24]) -> Record
         dz: read_u32(s, at + 8),
         tolerance: read_u32(s, at + 12),
         budget: read_u32(s, at + 16),
-        spare: 0,
+        cap: 0,
         edition,
         points,
     }
@@ -104,7 +104,7 @@ fn decode_wide(s: &[u8], at: usize, edition: u8, points: [i32; 24]) -> Record
         dz: read_u32(s, at + 16),
         tolerance: read_u32(s, at + 20),
         budget: read_u32(s, at + 24),
-        spare: read_u32(s, at + 28),
+        cap: read_u32(s, at + 28),
         edition,
         points,
     }
@@ -147,7 +147,7 @@ fn encode_wide(s: &mut [u8], at: usize, r: Record)
     write_u32(s, at + 16, r.dz);
     write_u32(s, at + 20, r.tolerance);
     write_u32(s, at + 24, r.budget);
-    write_u32(s, at + 28, r.spare);
+    write_u32(s, at + 28, r.cap);
     let points = r.points;
     write_points(s, at + 32, points);
 }

@@ -27,7 +27,7 @@ pub record Written (q : Query) (k : Depths) (p : Parameter) (n h : ℕ) (old new
   pub len : length new ≡ length old
   pub source : take h new ≡ take h old
   pub beyond : drop (h + m) new ≡ drop (h + m) old
-  pub grid : All (OfLevel k) (take m (drop h new))
+  pub grid : All (OfLevel (q .last) k) (take m (drop h new))
   pub done : map boxOf (take m (drop h new)) ++ halvesFrom q k p (take n old) i j ≡ halvesFrom q k p (take n old) 0 0
 
 module _ (q : Query) (k : Depths) (p : Parameter) (n h : ℕ) (old : List ℕ) (fits : n ≤ h) (twice : h + h ≤ length old) where
@@ -49,7 +49,7 @@ module _ (q : Query) (k : Depths) (p : Parameter) (n h : ℕ) (old : List ℕ) (
         rw (length-append, length-map, length-take-le m (drop h new) (rw (length-drop h new) (omega (arith, w .len)))) (omega arith)
 
     -- what is written are the first of the boxes
-    first-placed : (rest : List Box) → map boxOf (take m (drop h new)) ++ rest ≡ whole → Placed h m k (take m whole) old new
+    first-placed : (rest : List Box) → map boxOf (take m (drop h new)) ++ rest ≡ whole → Placed (q .last) h m k (take m whole) old new
     first-placed rest e = record {
       fits = w .room;
       placed = rw (← e) (sym (take-at (map boxOf (take m (drop h new))) rest m (length-map (take m (drop h new)) boxOf ∙ length-take-le m (drop h new) (rw (length-drop h new) (omega (arith, w .len))))));
@@ -86,15 +86,15 @@ module _ (q : Query) (k : Depths) (p : Parameter) (n h : ℕ) (old : List ℕ) (
             len = length-set new (h + m) (r .word) ∙ w .len;
             source = take-set-le h new (h + m) (r .word) (omega arith) ∙ w .source;
             beyond = rw (← add-assoc h m 1) (drop-set-lt (h + m + 1) new (h + m) (r .word) (omega arith) ∙ same-after (h + m) new old (w .beyond));
-            grid = rw (drop-set-add h new m (r .word), add-one m, take-suc-set (drop h new) m (r .word) long) (all-snoc (OfLevel k) (take m (drop h new)) (r .word) (w .grid) (taken .of-level));
+            grid = rw (drop-set-add h new m (r .word), add-one m, take-suc-set (drop h new) m (r .word) long) (all-snoc (OfLevel (q .last) k) (take m (drop h new)) (r .word) (w .grid) (taken .of-level e));
             done = rw (drop-set-add h new m (r .word)) (put m (drop h new) (r .word) _ long ∙ next true e);
           }
 
       -- a half that has no room is one too many
-      pub no-room : r .stays ≡ true → m ≡ h → NextIs h k whole old new Room
+      pub no-room : r .stays ≡ true → m ≡ h → NextIs (q .last) h k whole old new Room
       no-room e l = (rw (← next true e) (omega (arith, length-part (boxOf (r .word)) (rest))), rw l at (first-placed (boxOf (r .word) ∷ rest) (next true e)))
 
-    pub all-placed : n + n ≤ low .at + high .at → NextIs h k whole old new (Level m)
+    pub all-placed : n + n ≤ low .at + high .at → NextIs (q .last) h k whole old new (Level m)
     all-placed past = record {
       fits = w .room;
       placed = sym (append-nil (map boxOf (take m (drop h new)))) ∙ rw (none-left q k p (take n old) (low .at) (high .at) (omega (arith, short, w .i-le, w .j-le)) (omega (arith, short, w .i-le, w .j-le))) at (w .done);

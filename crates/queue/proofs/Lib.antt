@@ -1,4 +1,5 @@
 pub mod Copying
 pub mod Merging
 pub mod Growing
+pub mod Capping
 pub mod Picking

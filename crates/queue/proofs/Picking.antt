@@ -1,9 +1,9 @@
 -- The half that goes first is the first of the merge, or is passed where it does not stay.
-use mathlib.Core.Path.{_≡_, refl, sym, ap, _∙_}
+use mathlib.Core.Path.{_≡_, refl, sym, ap, ap₂, _∙_}
 use mathlib.Core.Bool.{Bool, true, false, not, cond, _&&_, _||_}
 use mathlib.Core.Logic.{_⊎_, inl, inr, ⊎-elim}
 use mathlib.Core.List.{List, _∷_}
-use Prim.Native.Nat.{ℕ, _+_, _≤_, _<_}
+use Prim.Native.Nat.{ℕ, _+_, _^_, _≤_, _<_}
 use native.Mathlib.Omega.{arith}
 use lib.ListN.{length, getD, take}
 use lib.Seq.{getD-take}
@@ -12,12 +12,15 @@ use borrow.Author.Tests.{le-leb, lt-leb, leb-true, leb-false, ltb-true, ltb-fals
 use Rattle.rules.specs.declared.Parameter.{Parameter}
 use Rattle.rules.specs.Search.{Query, Box, Depths, stored, inside, notAfter}
 use Rattle.kernel.specs.Ranges.{Shallow, InGrid}
-use Rattle.boxes.specs.Boxes.{boxOf, halfOf}
-use Rattle.boxes.specs.Words.{same-order, unpack-pack}
+use Rattle.boxes.specs.Boxes.{boxOf, halfOf, halfBy}
+use Rattle.boxes.specs.Words.{same-order, unpack-pack, half-by}
+use Rattle.gap.specs.Asked.{inFace}
+use Rattle.queue.specs.declared.Halving.{Halving}
 use Rattle.queue.specs.declared.Half.{Half}
 use Rattle.queue.specs.All.{All, all-at, all-front}
-use Rattle.queue.specs.Grid.{fits-grid, stored-of-level}
-use Rattle.queue.specs.Level.{OfLevel, Splits, Looks, HalfIs, halvesFrom, halfAt, isLowFirst, past}
+use Rattle.queue.specs.Grid.{fits-grid, stored-fits, stored-of-level}
+use Rattle.queue.specs.Level.{OfLevel, Splits, Looks, HalfIs, halvesFrom, halfAt, isLowFirst, past, boundOf}
+use Rattle.queue.proofs.Capping.{asked-by-word, inside-begins}
 use Rattle.queue.proofs.Merging.{step-last-high, step-pass-low, step-last-low, step-pass-high, step-low, step-high}
 
 below : {a n : ℕ} → a ≤ n → (a < n) ⊎ (a ≡ n)
@@ -29,31 +32,41 @@ below {a} {n} h = go (ltb a n) refl
 
 -- ---- a half at its place
 
-module _ (q : Query) (k : Depths) (p : Parameter) (high : Bool) (queue : List ℕ) (n i : ℕ) where
-  pub splits-at : Looks k p queue n i → (i ≡ n → ⊥) → Splits k p (getD queue i 0)
-  splits-at x ne = all-front (Splits k p) queue n i (x .fits) (x .splits) (omega (arith, x .i-le))
+module _ (q : Query) (k : Depths) (c : Halving) (high : Bool) (queue : List ℕ) (n i : ℕ) where
+  abbrev parent : ℕ
+  parent = getD queue i 0
 
   abbrev box : Box
-  box = halfOf p high (boxOf (getD queue i 0))
+  box = halfOf (c .split) high (boxOf parent)
 
-  -- it is read back from its word
-  pub half-box : (word : ℕ) → Shallow 20 k → Splits k p (getD queue i 0) → word ≡ stored box → boxOf word ≡ box
-  half-box word shallow x e = rw e (unpack-pack box (fits-grid k box shallow (x .halves high)))
+  pub splits-at : Looks q k c queue n i → (i ≡ n → ⊥) → Splits (q .last) k (c .split) parent
+  splits-at x ne = all-front (Splits (q .last) k (c .split)) queue n i (x .fits) (x .splits) (omega (arith, x .i-le))
 
-  pub half-there : (word : ℕ) (stays : Bool) → Looks k p queue n i → (i ≡ n → ⊥) → word ≡ stored box → stays ≡ inside q k (boxOf word)
-      → HalfIs q k (halfAt p high (take n queue)) n (record { at = i; word = word; stays = stays })
-  half-there word stays x ne e f =
-      let b = half-box word (x .shallow) (splits-at x ne) e in
-      record {
-        at-le = x .i-le;
-        word = λ h. rw (getD-take n queue i 0 h) e;
-        box = λ h. rw (getD-take n queue i 0 h) b;
-        inside-is = λ h. rw (getD-take n queue i 0 h) (f ∙ ap (inside q k) b);
-        none = λ z. absurd (ne z);
-        none-stays = λ z. absurd (ne z);
-      }
+  module _ (x : Looks q k c queue n i) (ne : i ≡ n → ⊥) (word : ℕ) (is : word ≡ halfBy (c .bits) (c .one) high parent) where
+    pub half-word : word ≡ stored box
+    half-word = is ∙ ap (λ (d : Halving). halfBy (d .bits) (d .one) high parent) (x .halving) ∙ half-by (c .split) high parent (splits-at x ne .fits)
 
-  pub half-none : i ≡ n → HalfIs q k (halfAt p high (take n queue)) n (record { at = i; word = past; stays = true })
+    -- it is read back from its word
+    pub half-box : boxOf word ≡ box
+    half-box = rw half-word (unpack-pack box (fits-grid k box (x .shallow) (splits-at x ne .halves high)))
+
+    stays-is : ((not high || ltb word (c .bound)) && inFace q k (boxOf word)) ≡ inside q k box
+    stays-is =
+        ap (λ (late : Bool). (not high || late) && inFace q k (boxOf word)) (ap₂ ltb half-word (ap (λ (d : Halving). d .bound) (x .halving)))
+        ∙ ap (λ (b : Box). (not high || ltb (stored box) (boundOf (q .last) k)) && inFace q k b) half-box
+        ∙ asked-by-word q k (c .split) parent (x .shallow) (splits-at x ne) high
+
+    pub half-there : HalfIs q k (halfAt (c .split) high (take n queue)) n (record { at = i; word = word; stays = (not high || ltb word (c .bound)) && inFace q k (boxOf word) })
+    half-there = record {
+      at-le = x .i-le;
+      word = λ h. rw (getD-take n queue i 0 h) half-word;
+      box = λ h. rw (getD-take n queue i 0 h) half-box;
+      inside-is = λ h. rw (getD-take n queue i 0 h) stays-is;
+      none = λ z. absurd (ne z);
+      none-stays = λ z. absurd (ne z);
+    }
+
+  pub half-none : i ≡ n → HalfIs q k (halfAt (c .split) high (take n queue)) n (record { at = i; word = past; stays = true })
   half-none e = record {
     at-le = omega arith;
     word = λ h. absurd (omega arith);
@@ -81,12 +94,17 @@ first-is x y true true = go (leb x y) refl
     go true e = not-after (leb-true x y e)
     go false e = after (leb-false x y e)
 
-module _ (q : Query) (k : Depths) (p : Parameter) (ws : List ℕ) (n : ℕ) (long : length ws ≡ n) (shallow : Shallow 20 k) (splits : All (Splits k p) ws) where
+module _ (q : Query) (k : Depths) (p : Parameter) (ws : List ℕ) (n : ℕ) (long : length ws ≡ n) (shallow : Shallow 20 k) (splits : All (Splits (q .last) k p) ws) where
   grid : (high : Bool) (i : ℕ) → i < n → InGrid k (halfAt p high ws i)
-  grid high i h = all-at (Splits k p) ws i splits (omega arith) .halves high
+  grid high i h = all-at (Splits (q .last) k p) ws i splits (omega arith) .halves high
 
-  pub of-level : (high : Bool) (h : Half) → HalfIs q k (halfAt p high ws) n h → h .at < n → OfLevel k (h .word)
-  of-level high h x l = stored-of-level k (halfAt p high ws (h .at)) (h .word) shallow (grid high (h .at) l) (x .word l) (x .box l)
+  word-fits : (high : Bool) (h : Half) → HalfIs q k (halfAt p high ws) n h → h .at < n → h .word < 2 ^ 60
+  word-fits high h x l = stored-fits k (halfAt p high ws (h .at)) (h .word) shallow (grid high (h .at) l) (x .word l)
+
+  pub of-level : (high : Bool) (h : Half) → HalfIs q k (halfAt p high ws) n h → h .at < n → h .stays ≡ true → OfLevel (q .last) k (h .word)
+  of-level high h x l e =
+      let b = halfAt p high ws (h .at) in
+      stored-of-level (q .last) k b (h .word) shallow (grid high (h .at) l) (x .word l) (x .box l) (inside-begins q k b (sym (x .inside-is l) ∙ e))
 
   order : (i j : ℕ) → i < n → j < n → notAfter (halfAt p false ws i) (halfAt p true ws j) ≡ leb (stored (halfAt p false ws i)) (stored (halfAt p true ws j))
   order i j hi hj = same-order (halfAt p false ws i) (halfAt p true ws j) (fits-grid k (halfAt p false ws i) shallow (grid false i hi)) (fits-grid k (halfAt p true ws j) shallow (grid true j hj))
@@ -117,10 +135,10 @@ module _ (q : Query) (k : Depths) (p : Parameter) (ws : List ℕ) (n : ℕ) (lon
 
     -- none stands before a half that is there
     low-in : high .at < n → low .word ≤ high .word → low .at < n
-    low-in j o = ⊎-elim (λ h. h) (λ z. omega (arith, l .none z, of-level true high g j .fits)) (below (l .at-le))
+    low-in j o = ⊎-elim (λ h. h) (λ z. omega (arith, l .none z, word-fits true high g j)) (below (l .at-le))
 
     high-in : low .at < n → high .word < low .word → high .at < n
-    high-in i o = ⊎-elim (λ h. h) (λ z. omega (arith, g .none z, of-level false low l i .fits)) (below (g .at-le))
+    high-in i o = ⊎-elim (λ h. h) (λ z. omega (arith, g .none z, word-fits false low l i)) (below (g .at-le))
 
     low-first : low .stays ≡ true → high .stays ≡ true → low .word ≤ high .word → LowTaken
     low-first d e o =

@@ -5,8 +5,10 @@ ghost use Prim.Native.Nat.{_+_, _≤_};
 ghost use lib.ListN.{length, take, drop, replicate};
 ghost use Rattle.kernel.specs.Kernel.{asked};
 ghost use Rattle.queue.specs.Cleared.{cleared};
-ghost use Rattle.queue.specs.Level.{Looks, HalfIs, halfAt, isLowFirst, Takes, TakenIs, Grows, Grown};
-use boxes::half;
+ghost use Rattle.queue.specs.Level.{halvingOf, Looks, HalfIs, halfAt, isLowFirst, Takes, TakenIs, Grows, Grown};
+use boxes::half_by;
+use boxes::index_bits;
+use boxes::index_one;
 use boxes::unpack;
 use kernel::Pair;
 use rules::Parameter;
@@ -43,6 +45,29 @@ pub fn copy_down(queue: &mut [u64], h: usize, n: usize)
     }
 }
 
+// How a level's boxes are halved, worked out once a level. The bound is a word: a half's own word says whether its low t is beyond the cap.
+pub struct Halving {
+    pub split: Parameter,
+    pub bits: u64,
+    pub one: u64,
+    pub bound: u64,
+}
+
+// The bound is the first word past the last t index that begins in time; k are the depths after the split.
+fn halving_of(p: Pair, k: Three, split: Parameter) -> Halving
+    requires { ⌜ (k .t ≤ 20) × (p .last ≤ 1048576) ⌝ }
+    ensures { λ r. ⌜ r ≡ halvingOf (p .last) k split ⌝ }
+{
+    let index = p.last >> (20 - k.t);
+    let bound = (index + 1) << 40;
+    Halving {
+        split,
+        bits: index_bits(split),
+        one: index_one(split),
+        bound,
+    }
+}
+
 // Greater than the word of any box.
 const PAST: u64 = 18446744073709551615;
 
@@ -53,18 +78,10 @@ pub struct Half {
     pub stays: bool,
 }
 
-// The low or the high half of the box at a place; k are the depths after the split.
-fn half_at(
-    p: Pair,
-    k: Three,
-    split: Parameter,
-    high: bool,
-    queue: &[u64],
-    n: usize,
-    at: usize,
-) -> Half
-    requires { ⌜ Looks k split (now queue) n at ⌝ }
-    ensures { λ r. ⌜ (r .at ≡ at) × HalfIs (asked p) k (halfAt split high (take n (now (queue .entry)))) n r ⌝ }
+// The low or the high half of the box at a place. A low half begins when its box does, which is not beyond the cap.
+fn half_at(p: Pair, k: Three, c: Halving, high: bool, queue: &[u64], n: usize, at: usize) -> Half
+    requires { ⌜ Looks (asked p) k c (now queue) n at ⌝ }
+    ensures { λ r. ⌜ (r .at ≡ at) × HalfIs (asked p) k (halfAt (c .split) high (take n (now (queue .entry)))) n r ⌝ }
 {
     if at == n {
         return Half {
@@ -73,12 +90,12 @@ fn half_at(
             stays: true,
         };
     }
-    let word = half(split, high, queue[at]);
+    let word = half_by(c.bits, c.one, high, queue[at]);
     let b = unpack(word);
     Half {
         at,
         word,
-        stays: gap::inside(p, k, b),
+        stays: (!high | (word < c.bound)) & gap::in_face(p, k, b),
     }
 }
 
@@ -98,20 +115,12 @@ pub struct Taken {
 }
 
 // Only the list that the half is taken from goes on, so that each half is worked out once.
-fn take_half(
-    p: Pair,
-    k: Three,
-    split: Parameter,
-    queue: &[u64],
-    n: usize,
-    low: Half,
-    high: Half,
-) -> Taken
-    requires { ⌜ Takes (asked p) k split (now queue) n low high ⌝ }
-    ensures { λ r. ⌜ TakenIs (asked p) k split (take n (now (queue .entry))) n low high r ⌝ }
+fn take_half(p: Pair, k: Three, c: Halving, queue: &[u64], n: usize, low: Half, high: Half) -> Taken
+    requires { ⌜ Takes (asked p) k c (now queue) n low high ⌝ }
+    ensures { λ r. ⌜ TakenIs (asked p) k (c .split) (take n (now (queue .entry))) n low high r ⌝ }
 {
     if is_low_first(low, high) {
-        let next = half_at(p, k, split, false, queue, n, low.at + 1);
+        let next = half_at(p, k, c, false, queue, n, low.at + 1);
         Taken {
             word: low.word,
             stays: low.stays,
@@ -119,7 +128,7 @@ fn take_half(
             high,
         }
     } else {
-        let next = half_at(p, k, split, true, queue, n, high.at + 1);
+        let next = half_at(p, k, c, true, queue, n, high.at + 1);
         Taken {
             word: high.word,
             stays: high.stays,
@@ -141,11 +150,12 @@ pub fn grow(p: Pair, k: Three, split: Parameter, queue: &mut [u64], n: usize) ->
     ensures { λ r. ⌜ Grown p k split n (now (queue .entry)) (now (queue .exit)) r ⌝ }
 {
     let h = p.room;
-    let mut low = half_at(p, k, split, false, queue, n, 0);
-    let mut high = half_at(p, k, split, true, queue, n, 0);
+    let c = halving_of(p, k, split);
+    let mut low = half_at(p, k, c, false, queue, n, 0);
+    let mut high = half_at(p, k, c, true, queue, n, 0);
     let mut m = 0;
     while low.at + high.at < n + n {
-        let next = take_half(p, k, split, queue, n, low, high);
+        let next = take_half(p, k, c, queue, n, low, high);
         low = next.low;
         high = next.high;
         if next.stays {

@@ -21,22 +21,22 @@ use Rattle.little.specs.Put.{put-nil}
 use Rattle.reasons.specs.Telling.{asked, fileRefusal, fileRuling, Rules, TellsWhy}
 use Rattle.reasons.specs.Laws.{refused-with, named-why}
 
--- ---- fetching gives 1 to 13
-own-few : (r : Record) → recordRefusal r ≤ 13
+-- ---- fetching gives 1 to 13 and 22
+own-few : (r : Record) → recordRefusal r ≤ 22
 unfolding recordRefusal
-own-few r = first-most 13 (recordCases r) (omega arith, (omega arith, (omega arith, (omega arith, (omega arith, (omega arith, tt))))))
+own-few r = first-most 22 (recordCases r) (omega arith, (omega arith, (omega arith, (omega arith, (omega arith, (omega arith, (omega arith, tt)))))))
 
-reach-few : (file : List ℕ) (n : ℕ) → reachRefusal file n ≤ 13
+reach-few : (file : List ℕ) (n : ℕ) → reachRefusal file n ≤ 22
 unfolding reachRefusal
 reach-few file n =
-    first-most 13 (openCases (fileForm file) file ++ (record { number = 13; due = not (ltb n (recordCount file)) } ∷ []))
+    first-most 22 (openCases (fileForm file) file ++ (record { number = 13; due = not (ltb n (recordCount file)) } ∷ []))
     (omega arith, (omega arith, (omega arith, (omega arith, (omega arith, (omega arith, tt))))))
 
-fetched-few : (file : List ℕ) (n : ℕ) → fetched file n .refusal ≤ 13
+fetched-few : (file : List ℕ) (n : ℕ) → fetched file n .refusal ≤ 22
 unfolding fetched fetchUnless
 fetched-few file n = go (reachRefusal file n) (reach-few file n)
   where
-    go : (k : ℕ) → k ≤ 13 → fetchUnless k (recordAt (editionOf file) file (placeOf file n)) .refusal ≤ 13
+    go : (k : ℕ) → k ≤ 22 → fetchUnless k (recordAt (editionOf file) file (placeOf file n)) .refusal ≤ 22
     go zero h = own-few (recordAt (editionOf file) file (placeOf file n))
     go (suc k) h = h
 

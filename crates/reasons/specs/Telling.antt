@@ -20,7 +20,7 @@ asked file n = fetched file n .query
 abbrev pub space : Bool → Case
 space room = record { number = 14; due = not room }
 
--- fetching's refusals (8 to 13, then the record's own 1 to 6), then the search's 7, then 23, 14 and 24
+-- fetching's refusals (8 to 13, then the record's own 1 to 6 and 22), then the search's 7, then 23, 14 and 24
 unfoldable pub fileRefusal : List ℕ → ℕ → Three → Bool → ℕ → ℕ
 fileRefusal file n at room words =
     orElse (fetched file n .refusal)

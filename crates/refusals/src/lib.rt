@@ -1,4 +1,4 @@
-// Rows 1 to 7 of document 01's table, lowest number first. The search and the query file share them.
+// Rows 1 to 7 of document 01's table, lowest number first, with 22 between 6 and 7 (document 02, R-7). The search and the query file share them.
 ghost use mathlib.Core.Path.{_≡_};
 ghost use mathlib.Core.Bool.{_||_, cond};
 ghost use lib.Dec.{eqb};
@@ -25,7 +25,7 @@ fn is_kind(kind: u8) -> bool
 fn are_flags(r: Record) -> bool
     ensures { λ b. ⌜ b ≡ areFlags r ⌝ }
 {
-    (r.flags <= 1) & (r.byte2 == 0) & (r.byte3 == 0) & (r.spare == 0)
+    (r.flags <= 1) & (r.byte2 == 0) & (r.byte3 == 0)
 }
 
 fn are_separations(r: Record) -> bool
@@ -104,13 +104,14 @@ pub fn first(due: bool, number: u32, rest: u32) -> u32
     if due { number } else { rest }
 }
 
-// The first of 1 to 6 that is due, else `rest`: from the last row to the first. `right`: every coordinate is one, which who reads them has tested. 4 also
-// where there is no room for the separations.
-fn refusal_by(room: bool, r: Record, right: bool, rest: u32) -> u32
+// The first of 1 to 6 and 22 that is due, else `rest`: from the last row to the first. `right`: every coordinate is one, which who reads them has tested. 4 also
+// where there is no room for the separations, 22 also where there is none for the cap.
+fn refusal_by(room: bool, holds: bool, r: Record, right: bool, rest: u32) -> u32
     requires { ⌜ right ≡ every (isCoordinate (limitsOf (r .edition))) (r .points) ⌝ }
-    ensures { λ n. ⌜ n ≡ firstOr (casesWith room r) rest ⌝ }
+    ensures { λ n. ⌜ n ≡ firstOr (casesWith room holds r) rest ⌝ }
 {
-    let six = first(!is_between(1, 1000000, r.budget), 6, rest);
+    let cap = first(!(holds & is_between(0, 1048576, r.cap)), 22, rest);
+    let six = first(!is_between(1, 1000000, r.budget), 6, cap);
     let least = least_tolerance(r.edition);
     let five = first(!is_between(least, 1048576, r.tolerance), 5, six);
     let four = first(!(room & are_separations(r)), 4, five);
@@ -119,26 +120,26 @@ fn refusal_by(room: bool, r: Record, right: bool, rest: u32) -> u32
     first(!is_kind(r.kind), 1, two)
 }
 
-pub fn refusal_with(room: bool, r: Record, rest: u32) -> u32
-    ensures { λ n. ⌜ n ≡ firstOr (casesWith room r) rest ⌝ }
+pub fn refusal_with(room: bool, holds: bool, r: Record, rest: u32) -> u32
+    ensures { λ n. ⌜ n ≡ firstOr (casesWith room holds r) rest ⌝ }
 {
     let points = r.points;
-    refusal_by(room, r, are_coordinates(r.edition, &points), rest)
+    refusal_by(room, holds, r, are_coordinates(r.edition, &points), rest)
 }
 
-// What a record is refused for by itself, 1 to 6; 0: nothing.
+// What a record is refused for by itself, 1 to 6 and 22; 0: nothing.
 pub fn record_refusal(r: Record) -> u32
     ensures { λ n. ⌜ n ≡ recordRefusal r ⌝ }
 {
-    refusal_with(true, r, 0)
+    refusal_with(true, true, r, 0)
 }
 
-// What a search of it with so many queue words is refused for, 1 to 7; 0: nothing. Its coordinates are tested already.
+// What a search of it with so many queue words is refused for, 1 to 6, 22 and 7; 0: nothing. Its coordinates are tested already.
 pub fn search_refusal_by(r: Record, right: bool, words: usize) -> u32
     requires { ⌜ right ≡ every (isCoordinate (limitsOf (r .edition))) (r .points) ⌝ }
     ensures { λ n. ⌜ n ≡ searchRefusal r words ⌝ }
 {
-    refusal_by(true, r, right, first(!is_queue(words), 7, 0))
+    refusal_by(true, true, r, right, first(!is_queue(words), 7, 0))
 }
 
 pub fn search_refusal(r: Record, words: usize) -> u32

@@ -1,4 +1,4 @@
--- Document 02, R-6, "Gangway against hull": the queries of two bodies in order, and what comes back.
+-- Document 02, R-6, "Gangway against hull": the queries of two bodies in order, and what comes back; with the caps of R-7.
 use Prim.Native.Nat.{ℕ, zero, suc, _+_, _*_, _-_}
 use mathlib.Core.Bool.{Bool, true, false, cond, _&&_}
 use mathlib.Core.List.{List, [], _∷_, _++_}
@@ -107,7 +107,7 @@ askOf w a b i j k =
       dz = w .dz;
       tolerance = w .tolerance;
       budget = w .budget;
-      spare = 0;
+      cap = 0;
       edition = w .edition;
       points = fourOf (a .start) (b .start) i j k (fourOf (a .end) (b .end) i j k []);
     }
@@ -174,10 +174,43 @@ unfoldable pub heard : BodyAnswer → Asked → Told → BodyAnswer
 heard sofar q r =
     counted (r .count) (cond (hasMoment r && isLess (r .t) sofar) (Least (r .t) (q .a) (q .b) (q .query) (r .word) (r .excess) (sumOf sofar)) sofar)
 
+-- "each query takes the least time so far as its cap" (document 02, R-7); no time so far: the whole step
+unfoldable pub capOf : BodyAnswer → ℕ
+capOf (Clear sum) = 0
+capOf (Least t a b query word excess sum) = t
+capOf (Refused number) = 0
+
+unfoldable pub capped : ℕ → Record → Record
+capped cap r =
+    record {
+      kind = r .kind;
+      flags = r .flags;
+      byte2 = r .byte2;
+      byte3 = r .byte3;
+      id = r .id;
+      dx = r .dx;
+      dy = r .dy;
+      dz = r .dz;
+      tolerance = r .tolerance;
+      budget = r .budget;
+      cap = cap;
+      edition = r .edition;
+      points = r .points;
+    }
+
+-- "0 time ends the walk" (document 02, R-7): nothing is asked after it
+unfoldable pub isOver : BodyAnswer → Bool
+isOver (Clear sum) = false
+isOver (Least t a b query word excess sum) = eqb t 0
+isOver (Refused number) = false
+
+unfoldable pub hearNext : ℕ → BodyAnswer → Asked → BodyAnswer
+hearNext words sofar q = cond (isOver sofar) sofar (heard sofar q (told (search (capped (capOf sofar) (q .ask)) words)))
+
 -- "the answers": of the written search, to each query in order
 unfoldable pub hearAll : ℕ → BodyAnswer → List Asked → BodyAnswer
 hearAll words sofar [] = sofar
-hearAll words sofar (q ∷ qs) = hearAll words (heard sofar q (told (search (q .ask) words))) qs
+hearAll words sofar (q ∷ qs) = hearAll words (hearNext words sofar q) qs
 
 -- a refusal's number (0: none), or else the answer
 unfoldable pub bodyUnless : ℕ → BodyAnswer → BodyAnswer

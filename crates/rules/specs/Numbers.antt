@@ -1,6 +1,6 @@
 -- Document 01, "Numbers". One unit is 1/8 mm.
 use Prim.Native.Nat.{ℕ, _/_}
-use mathlib.Core.Bool.{Bool, true, false, _&&_}
+use mathlib.Core.Bool.{Bool, true, false, cond, _&&_}
 use lib.IntN.{ℤ, natAbs}
 use lib.Dec.{leb, eqb}
 
@@ -36,6 +36,10 @@ isTolerance l n = between (l .tolerance) 1_048_576 n
 abbrev pub isBudget : ℕ → Bool
 isBudget n = between 1 1_000_000 n
 
+-- "0 means the whole step, 1 to 1,048,576 a last moment" (document 02, R-7)
+abbrev pub isCap : ℕ → Bool
+isCap n = between 0 1_048_576 n
+
 -- "Queue: 2 to 1,048,576 words of 64 bits."
 abbrev pub isQueue : ℕ → Bool
 isQueue words = between 2 1_048_576 words
@@ -47,3 +51,7 @@ half words = words / 2
 -- "Answered t, u, v count 1/1,048,576 parts." "Times are still written in 1/1,048,576 parts and are then even" (document 02, R-11)
 abbrev pub parts : ℕ
 parts = 1_048_576
+
+-- a cap's last moment, in parts (document 02, R-7)
+abbrev pub lastMoment : ℕ → ℕ
+lastMoment cap = cond (eqb cap 0) parts cap

@@ -68,7 +68,8 @@ coordinateBytes [] = []
 coordinateBytes (c ∷ cs) = wordBytes (bits c) ++ coordinateBytes cs
 
 -- "kind (byte 0), flags (1), zero (2, 3), id (4), separation (8), tolerance (12), budget (16). From 20: four points at the start, four at the end"; wide:
--- "bytes 0 to 7 as before, three separations at 8, tolerance at 20, budget at 24, a zero word at 28, points at 32". "An edition 1 record means three equal separations."
+-- "bytes 0 to 7 as before, three separations at 8, tolerance at 20, budget at 24, a zero word at 28, points at 32";
+-- "The word at 28 in edition 2 becomes a cap" (document 02, R-7). "An edition 1 record means three equal separations."
 unfoldable pub recordBy : Bool → ℕ → List ℕ → ℕ → Record
 recordBy wide edition s at = record {
   kind = getD s at 0;
@@ -81,7 +82,7 @@ recordBy wide edition s at = record {
   dz = word s (at + cond wide 16 8);
   tolerance = word s (at + cond wide 20 12);
   budget = word s (at + cond wide 24 16);
-  spare = cond wide (word s (at + 28)) 0;
+  cap = cond wide (word s (at + 28)) 0;
   edition = edition;
   points = coordinatesAt s (at + cond wide 32 20) 24;
 }
@@ -91,7 +92,7 @@ recordAt edition = recordBy (isWide edition) edition
 
 -- what stands between bytes 0 to 7 and the points
 abbrev pub termBytes : Bool → Record → List ℕ
-termBytes true r = wordBytes (r .dx) ++ wordBytes (r .dy) ++ wordBytes (r .dz) ++ wordBytes (r .tolerance) ++ wordBytes (r .budget) ++ wordBytes (r .spare)
+termBytes true r = wordBytes (r .dx) ++ wordBytes (r .dy) ++ wordBytes (r .dz) ++ wordBytes (r .tolerance) ++ wordBytes (r .budget) ++ wordBytes (r .cap)
 termBytes false r = wordBytes (r .dx) ++ wordBytes (r .tolerance) ++ wordBytes (r .budget)
 
 unfoldable pub bytesBy : Bool → Record → List ℕ
@@ -192,12 +193,12 @@ noRecord = record {
   dz = 0;
   tolerance = 0;
   budget = 0;
-  spare = 0;
+  cap = 0;
   edition = 1;
   points = replicate 24 (pos 0);
 }
 
--- "Fetching record n: 8 to 13, then 1 to 6." A record that is there is given beside its own refusal
+-- "Fetching record n: 8 to 13, then 1 to 6.", and 22 behind 6 (document 02, R-7). A record that is there is given beside its own refusal
 unfoldable pub fetchUnless : ℕ → Record → Fetched
 fetchUnless zero r = record { refusal = recordRefusal r; query = r }
 fetchUnless (suc k) r = record { refusal = suc k; query = noRecord }
@@ -236,14 +237,18 @@ inEdition edition r = record {
   dz = r .dz;
   tolerance = r .tolerance;
   budget = r .budget;
-  spare = r .spare;
+  cap = r .cap;
   edition = edition;
   points = r .points;
 }
 
--- "Writing a record: 1 to 6, then 14.", with 10 between them: the edition's size must be known before 14
+-- and it has no cap: room for none but 0 (document 02, R-7)
+abbrev pub hasCapRoom : ℕ → Record → Bool
+hasCapRoom edition r = not (eqb edition 1) || eqb (r .cap) 0
+
+-- "Writing a record: 1 to 6, then 14.", with 22 (document 02, R-7) and 10 between them: the edition's size must be known before 14
 unfoldable pub writeRefusal : ℕ → List ℕ → ℕ → Record → ℕ
-writeRefusal edition s at r = first (casesWith (hasRoom edition r) (inEdition edition r) ++ (noEdition edition ∷ space s at (recordSize edition) ∷ []))
+writeRefusal edition s at r = first (casesWith (hasRoom edition r) (hasCapRoom edition r) (inEdition edition r) ++ (noEdition edition ∷ space s at (recordSize edition) ∷ []))
 
 -- "Writing a trailer behind records: 11, then 12 (fewer bytes before it than 116 times the count), then 14." The bytes before it are the
 -- place itself, also where that lies past the end

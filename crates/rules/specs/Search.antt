@@ -13,7 +13,7 @@ use Rattle.rules.specs.declared.Parameter.the-variants.{InT, InU, InV}
 use Rattle.rules.specs.declared.Corner.{Corner}
 use Rattle.rules.specs.declared.Answer.{Answer}
 use Rattle.rules.specs.declared.Answer.the-variants.{Met, Clear, Spent, Room, Floor, Refused}
-use Rattle.rules.specs.Numbers.{limitsOf, parts, half}
+use Rattle.rules.specs.Numbers.{limitsOf, parts, half, lastMoment}
 use Rattle.rules.specs.declared.Axis.{Axis}
 use Rattle.rules.specs.declared.Axis.the-variants.{X, Y, Z}
 use Rattle.rules.specs.Gap.{gapOn, sided, isVertexFace, separationOn}
@@ -21,7 +21,7 @@ use Rattle.rules.specs.Refusals.{searchRefusal}
 
 -- ---- what is searched
 
--- what the search goes by. `gap axis q a b c` is F on the axis, times q·q, at t = a/q, u = b/q, v = c/q; `room` is H
+-- what the search goes by. `gap axis q a b c` is F on the axis, times q·q, at t = a/q, u = b/q, v = c/q; `room` is H; `last` is the last moment, in parts
 pub record Query : Type 0 where
   pub gap : Axis → ℕ → ℕ → ℕ → ℕ → ℤ
   pub isFace : Bool
@@ -30,6 +30,7 @@ pub record Query : Type 0 where
   pub budget : ℕ
   pub room : ℕ
   pub deepest : ℕ
+  pub last : ℕ
 
 -- "An answer depends on the record and the number of words": what a record with so many words asks
 abbrev pub query : Record → ℕ → Query
@@ -42,6 +43,7 @@ query r words =
       budget = r .budget;
       room = half words;
       deepest = limitsOf (r .edition) .deepest;
+      last = lastMoment (r .cap);
     }
 
 -- ---- boxes
@@ -210,8 +212,9 @@ abbrev pub highHalf : Parameter → Box → Box
 highHalf p = on p (λ i. 2 * i + 1)
 
 -- "For vertex-face a half whose low u plus low v exceeds 1 is dropped and never counted; equal to 1 stays."
+-- "A half whose low t exceeds the cap is dropped like one outside the face, uncounted." (document 02, R-7)
 unfoldable pub inside : Query → Depths → Box → Bool
-inside q k box = not (q .isFace) || leb (low (k .u) (box .u) + low (k .v) (box .v)) parts
+inside q k box = leb (low (k .t) (box .t)) (q .last) && (not (q .isFace) || leb (low (k .u) (box .u) + low (k .v) (box .v)) parts)
 
 -- those of a list that are such, in order
 unfoldable pub those : (Box → Bool) → List Box → List Box

@@ -21,7 +21,7 @@ use Rattle.rules.specs.declared.Stop.{Stop}
 use Rattle.rules.specs.declared.Reason.{Reason}
 use Rattle.rules.specs.declared.Ruling.{Ruling}
 use Rattle.rules.specs.declared.Ruling.the-variants.{Discarded, Refused}
-use Rattle.rules.specs.Numbers.{parts}
+use Rattle.rules.specs.Numbers.{parts, lastMoment}
 use Rattle.rules.specs.Gap.{place, isVertexFace}
 use Rattle.rules.specs.Answers.{told, hasMoment}
 use Rattle.rules.specs.Refusals.{Case, first, orElse, searchRefusal}
@@ -29,11 +29,11 @@ use Rattle.rules.specs.Search.{Query, query, Box, Depths, low, unit, lea
 
 -- ---- the point
 
--- "t, u, v in 1/1,048,576 parts, inside the domain"
+-- "t, u, v in 1/1,048,576 parts, inside the domain", and not "beyond the cap"
 unfoldable pub inDomain : Record → Three → Bool
-inDomain r at = leb (at .t) parts && leb (at .u) parts && leb (at .v) parts && (not (isVertexFace r) || leb (at .u + at .v) parts)
+inDomain r at = leb (at .t) parts && leb (at .t) (lastMoment (r .cap)) && leb (at .u) parts && leb (at .v) parts && (not (isVertexFace r) || leb (at .u + at .v) parts)
 
--- "before the answered time (or anywhere .. under CLEAR)"
+-- "before the answered time (or anywhere up to the cap under CLEAR)"
 unfoldable pub isBefore : Answer → ℕ → Bool
 isBefore a at = eqb (told a .word) 2 || hasMoment (told a) && ltb at (told a .t)
 
@@ -101,7 +101,7 @@ fromWhole r words at = descend (3 * query r words .deepest) (query r words) at w
 
 -- ---- the refusals
 
--- "23 OUTSIDE (not in the domain, ..)"
+-- "23 OUTSIDE (not in the domain, or beyond the cap)"
 abbrev pub outside : Record → Three → Case
 outside r at = record { number = 23; due = not (inDomain r at) }
 

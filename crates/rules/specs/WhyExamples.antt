@@ -15,7 +15,7 @@ use Rattle.rules.specs.Gap.{moving, vertexFace, edgeEdge, gapOn, negateF
 use Rattle.rules.specs.Refusals.{first, every, searchRefusal}
 use Rattle.rules.specs.Search.{search, run, levels, afterLevel, ifRoom, halves, merge, takeIn, notAfter, those, inside, split, winner, spread, check, oneBox, near, firstSurvivor, corner, excess, width, survives, least, greatest, overCorners, unless}
 use Rattle.rules.specs.Why.{inDomain, isBefore, goesUp, holding, missOn, missed, descend, whyRefusal, unlessWhy, whySearch, whyQueueAfter, toldWhy}
-use Rattle.rules.specs.Berth.{asked, apartly, minus, point, T, P-T, still, past-T, edges, below-flag, ranged, far-falling}
+use Rattle.rules.specs.Berth.{asked, apartly, minus, point, T, P-T, still, past-T, edges, below-flag, ranged, far-falling, upTo}
 
 pub record Row : Type 0 where
   pub query : Record
@@ -91,6 +91,14 @@ rows =
     ∷ row (ranged 3 1048576 (far-falling 2097152)) 4096 262143 0 524288 (named 4 2 1 1 0 0 1 Z Above)
     ∷ row (ranged 3 1048576 (far-falling 2097152)) 4096 262144 0 0 (Refused 24)
     ∷ row (ranged 2 1048576 (far-falling 2097152)) 4096 0 0 0 (Refused 3)
+    -- up to the cap a point of a CLEAR has its box; beyond it, 23 (document 02, R-7)
+    ∷ row (upTo 999 1000 262143) 4096 0 0 0 (named 2 2 0 0 0 0 0 Z Above)
+    ∷ row (upTo 999 1000 262143) 4096 262143 0 0 (named 2 2 0 0 0 0 0 Z Above)
+    ∷ row (upTo 999 1000 262143) 4096 262144 0 0 (Refused 23)
+    ∷ row (upTo 100 1000 262144) 4096 262143 0 0 (named 2 2 0 0 0 0 0 Z Above)
+    ∷ row (upTo 100 1000 262144) 4096 262144 0 0 (named 3 3 0 0 2 0 0 Z Above)
+    ∷ row (upTo 100 1000 262144) 4096 262145 0 0 (Refused 23)
+    ∷ row (upTo 999 1000 1048577) 1 0 0 0 (Refused 22)
     ∷ []
 
 pub why-rows : map (λ (r : Row). whySearch (r .query) (r .words) (r .at)) rows ≡ map (λ (r : Row). r .answer) rows

@@ -1,7 +1,8 @@
 // The values that document 01 speaks of, by value. The rules themselves stand in specs/.
 
 // A query as it is handed to the search or to a writer: every field of the file's record.
-// `edition` is that of its file, by which its ranges and depths go. dx, dy, dz are the separations; `spare` is the word at 28 of edition 2, and 0 in edition 1.
+// `edition` is that of its file, by which its ranges and depths go. dx, dy, dz are the separations; `cap` is the last moment that is looked at, in 1/1,048,576 parts,
+// and 0 for the whole step: the word at 28 of editions 2 and 3, and 0 in edition 1.
 // The points are p, v1, v2, v3 or p1, p2, p3, p4 at the start, then the same four at the end; x, y, z of each.
 pub struct Record {
     pub kind: u8,
@@ -14,7 +15,7 @@ pub struct Record {
     pub dz: u32,
     pub tolerance: u32,
     pub budget: u32,
-    pub spare: u32,
+    pub cap: u32,
     pub points: [i32; 24],
     pub edition: u8,
 }

@@ -56,7 +56,8 @@ module _ (p : Pair) (l : Level) (old : List ℕ) (x : Splitting p old l) where
     shallow = shallower (x .fine .ranged .deepest) shallow;
     fits = omega (arith, x .fine .size, x .fine .used);
     twice = x .fine .twice;
-    splits = all-imp (OfLevel (l .depths)) (Splits depths parameter) (splits-grid parameter (l .depths)) (take (l .size) old) (x .fine .grid);
+    last = x .fine .ranged .last;
+    splits = all-imp (OfLevel (p .last) (l .depths)) (Splits (p .last) depths parameter) (splits-grid (p .last) parameter (l .depths) (shallower (x .fine .ranged .deepest) shallow)) (take (l .size) old) (x .fine .grid);
   }
 
   some : 0 < length (boxes old l)

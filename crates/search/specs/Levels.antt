@@ -67,7 +67,7 @@ pub record Opens (p : Pair) (k : Depths) (queue : List ℕ) (n : ℕ) : Type 0 w
   pub ranged : Ranged p
   pub shallow : Shallow (p .deepest) k
   pub fits : n ≤ length queue
-  pub grid : All (OfLevel k) (take n queue)
+  pub grid : All (OfLevel (p .last) k) (take n queue)
 
 abbrev pub boxes : List ℕ → Level → List Box
 boxes queue l = map boxOf (take (l .size) queue)
@@ -85,7 +85,7 @@ pub record Fine (p : Pair) (queue : List ℕ) (l : Level) : Type 0 where
   pub used : l .used ≤ p .room
   pub twice : p .room + p .room ≤ length queue
   pub within : l .count ≤ p .budget
-  pub grid : All (OfLevel (l .depths)) (take (l .size) queue)
+  pub grid : All (OfLevel (p .last) (l .depths)) (take (l .size) queue)
   pub tidy : Tidy (p .room) (l .used) queue
 
 abbrev pub checkedAs : List ℕ → Step → Checked

@@ -22,7 +22,7 @@ refused it prints the line FILE alone.
 T is a part of the step, U and V are a place, all in 1/1048576. EXCESS is in
 1/8 mm, beyond the separation. COUNT is how many boxes were checked.
 
-  CLEAR   no contact in the whole step
+  CLEAR   no contact in the step, or up to the record's cap
   MET     no contact before T; within the tolerance of one then
   SPENT   no contact before T; the budget ended
   ROOM    no contact before T; the queue was full
@@ -36,6 +36,7 @@ N is the number of a refusal. A record is refused for
    4 SEPARATION  a separation is above 65,536
    5 TOLERANCE   the tolerance is outside the range of the edition
    6 BUDGET      the budget is 0 or above 1,000,000
+  22 CAP         the cap is above 1,048,576
 
 and a file for
 

@@ -22,7 +22,7 @@ pub example-lines :
     ≡ map ascii
     ("RULED OUT on z, first body on the + side: t 262144 to 393216, u 0 to 1048576, v 0 to 1048576 (25.00 % to 37.50 %, 0.00 % to 100.00 %, 0.00 % to 100.00 %); level 3, depths 3 0 0, box 2 0 0\n"
     ∷ "RULED OUT on x, first body on the - side: t 0 to 1048576, u 524288 to 1048576, v 0 to 524288 (0.00 % to 100.00 %, 50.00 % to 100.00 %, 0.00 % to 50.00 %); level 2, depths 0 1 1, box 0 1 0\n"
-    ∷ "REFUSED 23 not in the domain: t, u and v are at most 1048576, and for a face so is u + v\n"
+    ∷ "REFUSED 23 not in the domain (t, u and v are at most 1048576, and for a face so is u + v), or t is beyond the cap\n"
     ∷ "REFUSED 24 not ruled out: the search answers this moment or an earlier one\n"
     ∷ "REFUSED 5\n"
     ∷ "REFUSED 7\n"

@@ -100,7 +100,7 @@ numbered word n = word ++ field n ++ ascii "\n"
 -- of a refusal
 unfoldable pub refused : ℕ → List ℕ
 refused n =
-    cond (eqb n 23) (ascii "REFUSED 23 not in the domain: t, u and v are at most 1048576, and for a face so is u + v\n")
+    cond (eqb n 23) (ascii "REFUSED 23 not in the domain (t, u and v are at most 1048576, and for a face so is u + v), or t is beyond the cap\n")
     (cond (eqb n 24) (ascii "REFUSED 24 not ruled out: the search answers this moment or an earlier one\n")
     (cond (ofFile n) (numbered (ascii "FILE") n) (numbered (ascii "REFUSED") n)))
 

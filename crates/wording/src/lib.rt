@@ -208,7 +208,7 @@ fn write_refusal(out: &mut [u8], n: u32) -> usize
         return write_text(
             out,
             0,
-            b"REFUSED 23 not in the domain: t, u and v are at most 1048576, and for a face so is u + v\n",
+            b"REFUSED 23 not in the domain (t, u and v are at most 1048576, and for a face so is u + v), or t is beyond the cap\n",
         );
     }
     if n == 24 {

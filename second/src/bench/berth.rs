@@ -67,7 +67,7 @@ impl Berth {
             separations: [self.rng.pick(&SEPARATIONS); 3],
             tolerance: self.rng.between(self.least_tolerance, 5 * self.least_tolerance) as u32,
             budget: BUDGET,
-            spare: 0,
+            cap: 0,
             start: points[0],
             end: points[1],
         }

@@ -1,6 +1,7 @@
 //! F in i64: on each axis A + u·B + v·C, where A, B and C go straight from the start to the end.
 
 use super::reading::Query;
+use super::stored::SHIFTS;
 
 /// What is told counts 1 over 2 to this, whatever the edition.
 const TOLD_DEPTH: u32 = 20;
@@ -19,6 +20,8 @@ pub struct Asked {
     pub separations: Axes,
     pub tolerance: i64,
     pub budget: u32,
+    /// The last moment over Q; Q itself without a cap.
+    pub last: i64,
 }
 
 /// What a query asks beside its points.
@@ -28,6 +31,7 @@ pub struct Terms {
     pub separations: [u32; 3],
     pub tolerance: u32,
     pub budget: u32,
+    pub cap: u32,
 }
 
 /// Four points at the start and at the end, as a search goes by them.
@@ -47,8 +51,8 @@ pub trait Points {
 impl Asked {
     #[inline(always)]
     pub fn of(query: &Query, deepest: u32) -> Asked {
-        let Query { separations, tolerance, budget, .. } = *query;
-        let terms = Terms { deepest, separations, tolerance, budget };
+        let Query { separations, tolerance, budget, cap, .. } = *query;
+        let terms = Terms { deepest, separations, tolerance, budget, cap };
         Asked::new(query.is_vertex_face(), &terms, query)
     }
 
@@ -66,7 +70,12 @@ impl Asked {
             }
         }
         let tolerance = scaled(terms.tolerance);
-        Asked { is_vertex_face, deepest, ends, separations, tolerance, budget }
+        // Low t is whole over Q, so that an odd cap of a coarser grid loses nothing.
+        let last = match terms.cap {
+            0 => 1 << deepest,
+            cap => i64::from(cap) >> (TOLD_DEPTH - deepest),
+        };
+        Asked { is_vertex_face, deepest, ends, separations, tolerance, budget, last }
     }
 
     /// A, B or C on an axis at t, times Q.
@@ -74,6 +83,12 @@ impl Asked {
     pub fn at(&self, n: usize, axis: usize, t: i64) -> i64 {
         let [start, end] = &self.ends;
         (start[n][axis] << self.deepest) + t * (end[n][axis] - start[n][axis])
+    }
+
+    /// The words of boxes that begin up to the cap are below this one, at a depth of t.
+    #[inline(always)]
+    pub fn end(&self, depth: u32) -> u64 {
+        ((self.last as u64 >> (self.deepest - depth)) + 1) << SHIFTS[0]
     }
 
     /// What is told of a place over Q: t, u, v and the excess there.

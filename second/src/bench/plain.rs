@@ -133,6 +133,7 @@ impl Search<'_> {
         let shift = SHIFTS[parameter];
         let index = INDEX << shift;
         let low = |word: u64| (word & !index) | (word & index) << 1;
+        let end = self.asked.end(self.depths[0]);
         let (mut lows, mut highs, mut made) = (0, 0, 0);
         while highs < level.len() {
             let high = low(level[highs]) | 1 << shift;
@@ -143,7 +144,7 @@ impl Search<'_> {
                 highs += 1;
                 high
             };
-            if self.asked.is_vertex_face && !is_inside(word, &self.depths) {
+            if word >= end || self.asked.is_vertex_face && !is_inside(word, &self.depths) {
                 continue;
             }
             if made == next.len() {

@@ -3,13 +3,15 @@
 use super::motion::Points;
 use crate::edition::Range;
 use crate::record::{word_at, EDGE_EDGE, VERTEX_FACE};
-use crate::refusals::{MOST_BUDGET, MOST_SEPARATION, MOST_TOLERANCE};
+use crate::refusals::{MOST_BUDGET, MOST_CAP, MOST_SEPARATION, MOST_TOLERANCE};
 
 /// Bytes of a record of edition 1, and of editions 2 and 3.
 pub const ONE: usize = 116;
 pub const TWO: usize = 128;
 /// Bytes of its coordinates, which end it.
 const COORDINATES: usize = 96;
+/// What a record is refused for, in the order in which it is looked at.
+const NUMBERS: [u32; 8] = [1, 2, 3, 4, 5, 6, 22, 7];
 
 /// A record; its 24 coordinates stay where they stand.
 pub struct Query<'a> {
@@ -19,7 +21,7 @@ pub struct Query<'a> {
     pub separations: [u32; 3],
     pub tolerance: u32,
     pub budget: u32,
-    spare: u32,
+    pub cap: u32,
     coordinates: &'a [u8; COORDINATES],
 }
 
@@ -34,7 +36,7 @@ impl Query<'_> {
             separations: if SIZE == TWO { [word(8), word(12), word(16)] } else { [word(8); 3] },
             tolerance: if SIZE == TWO { word(20) } else { word(12) },
             budget: if SIZE == TWO { word(24) } else { word(16) },
-            spare: if SIZE == TWO { word(28) } else { 0 },
+            cap: if SIZE == TWO { word(28) } else { 0 },
             coordinates: bytes.last_chunk().expect("no record is shorter"),
         }
     }
@@ -49,25 +51,26 @@ impl Query<'_> {
         word_at(self.coordinates, 4 * (12 * end + 3 * point + axis)) as i32
     }
 
-    /// Refusals 1 to 7, lowest first; 0 for none. 7 is known beforehand, as the queue is the same for all.
+    /// The first refusal in order; 0 for none. 7 is known beforehand, as the queue is the same for all.
     #[inline(always)]
     pub fn refusal(&self, range: &Range, is_no_queue: bool) -> u32 {
         let [flags, byte2, byte3] = self.flags;
         let refused = [
             self.kind != VERTEX_FACE && self.kind != EDGE_EDGE,
-            u32::from(flags & 0xFE) | u32::from(byte2) | u32::from(byte3) | self.spare != 0,
+            u32::from(flags & 0xFE) | u32::from(byte2) | u32::from(byte3) != 0,
             self.has_outside(range.most_coordinate as u32),
             self.separations.iter().any(|d| *d > MOST_SEPARATION),
             !(range.least_tolerance..=MOST_TOLERANCE).contains(&self.tolerance),
             !(1..=MOST_BUDGET).contains(&self.budget),
+            self.cap > MOST_CAP,
             is_no_queue,
         ];
-        // One test for all that are sound, in place of seven.
-        let bits = (0..7).fold(0_u32, |bits, n| bits | u32::from(refused[n]) << n);
+        // One test for all that are sound, in place of eight.
+        let bits = (0..8).fold(0_u32, |bits, n| bits | u32::from(refused[n]) << n);
         if bits == 0 {
             0
         } else {
-            bits.trailing_zeros() + 1
+            number(bits)
         }
     }
 
@@ -81,6 +84,12 @@ impl Query<'_> {
         }
         furthest > 2 * most
     }
+}
+
+/// Of the lowest bit; by itself, as few records are refused.
+#[cold]
+fn number(bits: u32) -> u32 {
+    NUMBERS[bits.trailing_zeros() as usize]
 }
 
 /// As the search takes them: with the flag, y of the second body is negated.

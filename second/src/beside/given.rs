@@ -59,7 +59,7 @@ impl Given<'_> {
             0 => record.kind = self.rng.pick(&[0, 1, 2, 3, 255]),
             1 => record.flags = self.rng.pick(&[0, 1, 2, 3, 255]),
             2 => record.id = any,
-            3 => record.spare = self.rng.pick(&[1, 1 << 20, any]),
+            3 => record.cap = self.rng.pick(&[1, 1 << 20, any]),
             4 => record.separations.rotate_left(1),
             5 => record.separations[self.rng.below(3)] = any % 70_000,
             6 => record.tolerance = self.rng.pick(&[15, 16, 63, 64, 1 << 20, any]),

@@ -81,7 +81,7 @@ impl Library {
     pub fn write(&self, out: &mut [u8], at: usize, edition: u8, r: &Record, points: &[i32]) -> u32 {
         let (lent, out, [x, y, z]) = (out.len(), out.as_mut_ptr(), r.separations);
         let (kind, flags, id) = (r.kind, r.flags, r.id);
-        let (tolerance, budget, cap) = (r.tolerance, r.budget, r.spare);
+        let (tolerance, budget, cap) = (r.tolerance, r.budget, r.cap);
         let (from, numbers) = (points.as_ptr(), points.len());
         // Sound: as above.
         unsafe {
@@ -101,7 +101,7 @@ impl Library {
         told: &mut [u32],
     ) -> u32 {
         let (kind, flags, id, [x, y, z]) = (r.kind, r.flags, r.id, r.separations);
-        let (tolerance, budget, cap) = (r.tolerance, r.budget, r.spare);
+        let (tolerance, budget, cap) = (r.tolerance, r.budget, r.cap);
         let (from, numbers) = (points.as_ptr(), points.len());
         let (words, lent) = (queue.len(), told.len());
         // Sound: as above.

@@ -8,6 +8,9 @@ use std::fmt;
 /// The words of answers by their numbers, refused records first.
 pub const WORDS: [&str; 6] = ["REFUSED", "MET", "CLEAR", "SPENT", "ROOM", "FLOOR"];
 
+/// The highest number of a refusal.
+const MOST_NUMBER: usize = 22;
+
 #[derive(Clone, Debug, Default)]
 pub struct Tally {
     files: u64,
@@ -26,8 +29,8 @@ pub struct Tally {
     written: u64,
     /// Answers by word, refused records first.
     words: [u64; 6],
-    /// Refusals by number: 1 to 7 of records, 8 to 15 of calls and programs; a copy's are any of 1 to 14.
-    refusals: [u64; 16],
+    /// Refusals by number: 1 to 7 and 22 of records, 8 to 15 of calls and programs; a copy's are any of 1 to 14, and 22.
+    refusals: [u64; MOST_NUMBER + 1],
 }
 
 impl Tally {

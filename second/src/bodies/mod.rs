@@ -61,7 +61,7 @@ pub struct Least {
     pub b: u32,
     pub query: u32,
     pub excess: u32,
-    /// Of all queries.
+    /// Of all queries asked.
     pub count: u64,
 }
 
@@ -94,7 +94,7 @@ pub fn refusal(bodies: &Bodies, words: usize) -> Option<Refusal> {
     bodies.queries().find_map(|asked| of_query(&asked.record))
 }
 
-/// Asks one query after the other, and keeps the least time and the sum of counts.
+/// Asks one query after the other up to the least time so far, and keeps that time and the sum of counts; a time of 0 ends the walk.
 pub fn walk(
     queries: impl Iterator<Item = Asked>,
     mut ask: impl FnMut(&Record) -> Answer,
@@ -102,12 +102,17 @@ pub fn walk(
     let mut sum: u64 = 0;
     let mut least: Option<Least> = None;
     for asked in queries {
-        let answer = ask(&asked.record);
+        // No time so far is no cap.
+        let cap = least.map_or(0, |least| least.t);
+        let answer = ask(&Record { cap, ..asked.record });
         sum += u64::from(answer.count());
         let Some(corner) = answer.corner() else { continue };
         // An equal time later on changes nothing.
         if least.is_none_or(|least| corner.t < least.t) {
             least = Some(Least::of(&asked, &answer, corner));
+        }
+        if corner.t == 0 {
+            break;
         }
     }
     match least {
@@ -184,7 +189,7 @@ impl<'a> Bodies<'a> {
             separations: self.separations,
             tolerance: self.tolerance,
             budget: self.budget,
-            spare: 0,
+            cap: 0,
             start: points(query, &a[0], &b[0]),
             end: points(query, &a[1], &b[1]),
         }

@@ -6,7 +6,7 @@ use super::shapes::tiny;
 use crate::edition::{Edition, Range};
 use crate::file::{fetch, file_of, MOST_RECORDS, TRAILER_BYTES};
 use crate::record::{word_at, Record};
-use crate::refusals::{MOST_BUDGET, MOST_SEPARATION, MOST_TOLERANCE};
+use crate::refusals::{MOST_BUDGET, MOST_CAP, MOST_SEPARATION, MOST_TOLERANCE};
 
 /// Mostly a record with one refusal or several, else one at the ends of the ranges.
 pub fn maybe_refused(rng: &mut Dice) -> Record {
@@ -16,12 +16,22 @@ pub fn maybe_refused(rng: &mut Dice) -> Record {
     refused(rng)
 }
 
-/// Refusals 1 to 6: one alone, or any set.
+/// Refusals 1 to 6: one alone, or any set; behind edition 1 sometimes 22, alone or together with these.
 pub fn refused(rng: &mut Dice) -> Record {
-    let chosen = if rng.one_in(2) { 1 << rng.below(6) } else { 1 + rng.below(63) };
+    let capped = rng.edition.is_by_axis() && rng.one_in(3);
+    let chosen = if capped && rng.one_in(3) {
+        0
+    } else if rng.one_in(2) {
+        1 << rng.below(6)
+    } else {
+        1 + rng.below(63)
+    };
     let mut record = tiny(rng);
     for number in (1..=6).filter(|number| chosen >> (number - 1) & 1 == 1) {
         spoil(rng, &mut record, number);
+    }
+    if capped {
+        spoil_cap(rng, &mut record);
     }
     record
 }
@@ -49,12 +59,6 @@ pub fn bad_tolerance(rng: &mut Dice) -> u32 {
 }
 
 fn spoil_flags(rng: &mut Dice, record: &mut Record) {
-    if rng.edition.is_by_axis() && rng.one_in(3) {
-        spoil_spare(rng, record);
-        if rng.one_in(2) {
-            return;
-        }
-    }
     let byte = rng.pick(&[1, 2, 0x80, 0xFF]);
     match rng.below(4) {
         0 => record.flags |= rng.pick(&[2, 4, 8, 16, 32, 64, 128, 0xFE]),
@@ -64,9 +68,10 @@ fn spoil_flags(rng: &mut Dice, record: &mut Record) {
     }
 }
 
-/// Refusal 2 by the word at 28 alone.
-pub fn spoil_spare(rng: &mut Dice, record: &mut Record) {
-    record.spare = rng.pick(&[1, 1 << 8, 1 << 20, 1 << 31, u32::MAX]);
+/// A cap that is refused, whichever of its bits is the highest.
+pub fn spoil_cap(rng: &mut Dice, record: &mut Record) {
+    let any = (MOST_CAP << rng.below(12)) + rng.below(MOST_CAP as usize) as u32;
+    record.cap = rng.pick(&[MOST_CAP + 1, MOST_CAP + 1, any, 1 << 31, u32::MAX]).max(MOST_CAP + 1);
 }
 
 pub fn spoil_separation(rng: &mut Dice, record: &mut Record) {

@@ -2,6 +2,7 @@
 
 mod bad;
 pub mod bodies;
+mod caps;
 mod deep;
 mod degenerate;
 mod dice;
@@ -41,15 +42,31 @@ const FLAVOURS: [([&str; 3], Make); 18] = [
     (["one", "one2", "one3"], |rng| vec_of(rng, 1, mixed)),
 ];
 
+/// Those with caps, which edition 1 has not: their names in editions 2 and 3.
+const CAPPED: [([&str; 2], Make); 3] = [
+    (["cap2", "cap3"], caps::moments),
+    (["cap-budget2", "cap-budget3"], caps::budget),
+    (["cap-queue2", "cap-queue3"], caps::queue),
+];
+
 /// The flavours' names.
 pub fn flavours() -> Vec<&'static str> {
-    FLAVOURS.iter().flat_map(|(names, _)| *names).collect()
+    let capped = CAPPED.iter().flat_map(|(names, _)| *names);
+    FLAVOURS.iter().flat_map(|(names, _)| *names).chain(capped).collect()
 }
 
 /// The file of a seed and a flavour, if there is such a flavour.
 pub fn generate(seed: u64, flavour: &str) -> Option<Vec<u8>> {
-    let (place, make) = named(&FLAVOURS, flavour)?;
-    Some(make(&mut Dice::new(seed, flavour, Edition::ALL[place])))
+    let (edition, make) = in_all(flavour).or_else(|| behind_one(flavour))?;
+    Some(make(&mut Dice::new(seed, flavour, edition)))
+}
+
+fn in_all(flavour: &str) -> Option<(Edition, Make)> {
+    named(&FLAVOURS, flavour).map(|(place, make)| (Edition::ALL[place], make))
+}
+
+fn behind_one(flavour: &str) -> Option<(Edition, Make)> {
+    named(&CAPPED, flavour).map(|(place, make)| ([Edition::Two, Edition::Three][place], make))
 }
 
 /// Which of its names a flavour has and what makes it, if there is such a flavour.

@@ -1,6 +1,7 @@
 //! Cheap queries with their answers, as plain numbers for a checker that reads text.
 
-use super::bad::{refused, spoil_separation, spoil_spare};
+use super::bad::{refused, spoil_cap, spoil_separation};
+use super::caps::capped;
 use super::degenerate::degenerate;
 use super::dice::Dice;
 use super::far;
@@ -34,7 +35,7 @@ fn line(rng: &mut Dice) -> String {
 fn fields(words: usize, record: &Record) -> Vec<i64> {
     let bytes = [record.kind, record.flags, record.byte2, record.byte3];
     let [x, y, z] = record.separations;
-    let numbers = [record.id, x, y, z, record.tolerance, record.budget, record.spare];
+    let numbers = [record.id, x, y, z, record.tolerance, record.budget, record.cap];
     let coordinates = record.start.iter().chain(&record.end).flatten();
     let mut fields = vec![words as i64];
     fields.extend(bytes.map(i64::from));
@@ -43,7 +44,7 @@ fn fields(words: usize, record: &Record) -> Vec<i64> {
     fields
 }
 
-/// Refusals 1 to 6, 7, or both; the places that edition 1 has not by themselves too.
+/// Refusals 1 to 6 and 22, 7, or both; the places that edition 1 has not by themselves too.
 fn refused_query(rng: &mut Dice) -> (usize, Record) {
     let bad_words = rng.pick(&[0, 1, MOST_WORDS + 1]);
     let good_words = rng.pick(&[2, 64, 4096, MOST_WORDS]);
@@ -51,7 +52,11 @@ fn refused_query(rng: &mut Dice) -> (usize, Record) {
     match rng.below(6) {
         0 => return (bad_words, sound),
         1 => return (bad_words, refused(rng)),
-        2 => spoil_spare(rng, &mut sound),
+        // 22 comes before 7.
+        2 => {
+            spoil_cap(rng, &mut sound);
+            return (rng.pick(&[good_words, bad_words]), sound);
+        }
         3 => spoil_separation(rng, &mut sound),
         _ => return (good_words, refused(rng)),
     }
@@ -78,7 +83,8 @@ fn cheap(rng: &mut Dice) -> (Record, usize) {
         7 => extreme(rng),
         _ => brick(rng, CHEAP),
     };
-    let mut record = Record { budget: CHEAP + 1, ..base };
+    let whole = Record { budget: CHEAP + 1, ..base };
+    let mut record = if rng.one_in(3) { capped(rng, whole) } else { whole };
     let (answer, trace) = search_traced(&record, rng.range(), MOST_WORDS);
     if dull(&answer) && !rng.one_in(4) {
         return cheap(rng);

@@ -29,7 +29,7 @@ pub fn record(rng: &mut Dice, kind: u8, reach: i32, points: [[Point; 4]; 2]) -> 
         separations: rng.separations(|rng| separation(rng, reach)),
         tolerance: tolerance(rng, reach),
         budget,
-        spare: 0,
+        cap: 0,
         start: points[0],
         end: points[1],
     }

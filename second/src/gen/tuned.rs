@@ -12,21 +12,30 @@ use crate::search::search_traced;
 
 /// Budgets at a count where something happens, one below and one above.
 pub fn budget(rng: &mut Dice) -> Vec<u8> {
+    some_at_a_time(rng, |rng| {
+        let base = any_shape(rng);
+        budgets(rng, base)
+    })
+}
+
+/// A file of a dozen records or more, which are made a few together.
+pub fn some_at_a_time(rng: &mut Dice, make: fn(&mut Dice) -> Vec<Record>) -> Vec<u8> {
     let enough = 12 + rng.below(20);
     let mut records = Vec::new();
     while records.len() < enough {
-        let base = any_shape(rng);
-        let count = telling_count(rng, &base);
-        for budget in [count - 1, count, count + 1] {
-            if budget > 0 {
-                records.push(Record { budget, ..base });
-            }
-        }
+        records.extend(make(rng));
     }
     file_of(rng.edition, &as_in_a_file(rng, records))
 }
 
-fn any_shape(rng: &mut Dice) -> Record {
+/// The record with budgets at such a count of its own.
+pub fn budgets(rng: &mut Dice, base: Record) -> Vec<Record> {
+    let count = telling_count(rng, &base);
+    let budgets = [count - 1, count, count + 1].into_iter().filter(|budget| *budget > 0);
+    budgets.map(|budget| Record { budget, ..base }).collect()
+}
+
+pub fn any_shape(rng: &mut Dice) -> Record {
     match rng.below(8) {
         0..=2 => tiny(rng),
         3 | 4 => degenerate(rng),
@@ -56,7 +65,7 @@ pub fn queue(rng: &mut Dice) -> Vec<u8> {
 }
 
 /// A record with a level of three boxes at least.
-fn crowded(rng: &mut Dice) -> Record {
+pub fn crowded(rng: &mut Dice) -> Record {
     loop {
         let budget = rng.between(20, 500) as u32;
         let record = if rng.one_in(3) { brick(rng, budget) } else { any_shape(rng) };
@@ -111,7 +120,7 @@ fn parallel(rng: &mut Dice) -> Record {
         separations: rng.separations(|rng| (scale * rng.between(0, 24)) as u32),
         tolerance: least + rng.below(10) as u32,
         budget: 9000,
-        spare: 0,
+        cap: 0,
         start: moving(height),
         end: moving(-height),
     }
@@ -142,7 +151,7 @@ pub fn brick(rng: &mut Dice, budget: u32) -> Record {
         separations: rng.separations(|rng| rng.around(d as u32)),
         tolerance: least.max((((2 * d) >> halvings) + rng.between(0, 3)) as u32),
         budget,
-        spare: 0,
+        cap: 0,
         start: turned(from),
         end: turned(to),
     }

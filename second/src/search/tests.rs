@@ -16,7 +16,7 @@ fn crossing(tolerance: u32) -> Record {
         separations: [0; 3],
         tolerance,
         budget: 1_000_000,
-        spare: 0,
+        cap: 0,
         start: [[-b, 0, b], [a, 0, b], [0, -c / 2, 0], [0, c, 0]],
         end: [[-b, 0, -a], [a, 0, -a], [0, -c / 2, 0], [0, c, 0]],
     }

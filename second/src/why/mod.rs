@@ -43,7 +43,7 @@ impl Discarded {
 }
 
 impl Searched {
-    /// Refusals 1 to 7.
+    /// Refusals 1 to 6, 22, 7.
     pub fn of(record: &Record, range: Range, words: usize) -> Result<Searched, Refusal> {
         match search_traced(record, range, words) {
             (Answer::Refused(refusal), _) => Err(refusal),
@@ -54,7 +54,7 @@ impl Searched {
     /// Refusals 23, then 24.
     pub fn why(&self, point: Parts) -> Result<Discarded, Refusal> {
         self.check_inside(point)?;
-        // CLEAR has no time and rules out every point.
+        // CLEAR has no time and rules out every point up to the cap.
         if self.answer.corner().is_some_and(|corner| point[0] >= corner.t) {
             return Err(Refusal::NotRuledOut);
         }
@@ -75,7 +75,9 @@ impl Searched {
         // Wider than its summands, so that no sum wraps into the face.
         let sum = u64::from(u) + u64::from(v);
         let off_the_face = self.record.kind == VERTEX_FACE && sum > u64::from(ONE);
-        if t.max(u).max(v) > ONE || off_the_face {
+        let cap = self.record.cap;
+        let beyond_cap = cap != 0 && t > cap;
+        if t.max(u).max(v) > ONE || off_the_face || beyond_cap {
             return Err(Refusal::Outside);
         }
         Ok(())

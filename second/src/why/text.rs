@@ -6,7 +6,7 @@ use crate::refusals::Refusal;
 use crate::search::log::Side;
 use crate::text::{file_line, MOST_INPUT, SWEEP_WORDS};
 
-/// Record n of an input, searched as `sweep` does: 15 before anything else, 8 to 13, 1 to 6.
+/// Record n of an input, searched as `sweep` does: 15 before anything else, 8 to 13, 1 to 6 and 22.
 pub fn searched(input: &[u8], n: usize) -> Result<Searched, Refusal> {
     if input.len() > MOST_INPUT {
         return Err(Refusal::Long);
@@ -51,7 +51,8 @@ fn percent(parts: u32) -> String {
 fn refused(refusal: Refusal) -> String {
     let why = match refusal {
         Refusal::Outside => {
-            " not in the domain: t, u and v are at most 1048576, and for a face so is u + v"
+            " not in the domain (t, u and v are at most 1048576, and for a face so is u + v), \
+             or t is beyond the cap"
         }
         Refusal::NotRuledOut => " not ruled out: the search answers this moment or an earlier one",
         _ if is_of_the_file(refusal) => return file_line(refusal),

@@ -2,10 +2,12 @@
 #![allow(dead_code)]
 
 use second::edition::Range;
-use second::file::{open, record_at};
+use second::file::{open, record_at, write_record};
 use second::gen::generate;
 use second::record::{Point, Record, EDGE_EDGE, VERTEX_FACE};
+use second::refusals::Refusal;
 use second::search::{search, Answer, Corner};
+use second::why::{Discarded, Parts, Searched};
 
 /// The number that the sources' records call M.
 pub const M: i32 = 1_048_576;
@@ -28,7 +30,7 @@ fn record(kind: u8, start: [Point; 4], end: [Point; 4]) -> Record {
         separations: [0; 3],
         tolerance: 16,
         budget: 1000,
-        spare: 0,
+        cap: 0,
         start,
         end,
     }
@@ -95,6 +97,33 @@ pub fn ask_with(record: Record, words: usize) -> Answer {
 /// The answer with 4,096 words, in edition 3.
 pub fn ask3(record: Record) -> Answer {
     search(&record, Range::LONGER, 4096)
+}
+
+/// What writing a record into so many bytes gives; a refused write changes none of them.
+pub fn written(edition: u8, record: &Record, space: usize) -> u32 {
+    let mut bytes = vec![0xFF; space];
+    let result = write_record(&mut bytes, 0, edition, record);
+    assert_eq!(bytes == vec![0xFF; space], result.is_err());
+    result.map_or_else(Refusal::number, |()| 0)
+}
+
+/// A record's answer, and at each of these points the box that rules it out or the refusal.
+pub fn check_rows(searched: &Searched, answer: Answer, rows: &[(Parts, &str)]) {
+    assert_eq!(searched.answer, answer);
+    for (point, said) in rows {
+        let is = searched.why(*point).map_or_else(refused, |discarded| row(&discarded));
+        assert_eq!(is, *said, "at {point:?}");
+    }
+}
+
+fn refused(refusal: Refusal) -> String {
+    format!("REFUSED {}", refusal.number())
+}
+
+fn row(discarded: &Discarded) -> String {
+    let [level, kt, ku, kv, t, u, v, axis, side] = discarded.told();
+    let (axis, side) = (["x", "y", "z"][axis as usize], ["-", "+"][side as usize]);
+    format!("level {level} depths {kt} {ku} {kv} box {t} {u} {v} axis {axis} side {side}")
 }
 
 /// The files of a flavour's first seeds.

@@ -37,14 +37,6 @@ fn file(edition: Edition, leading: usize, records: &[Record]) -> Vec<u8> {
     bytes
 }
 
-/// What writing a record into so many bytes gives; a refused write changes none of them.
-fn written(edition: u8, record: &Record, space: usize) -> u32 {
-    let mut bytes = vec![0xFF; space];
-    let result = write_record(&mut bytes, 0, edition, record);
-    assert_eq!(bytes == vec![0xFF; space], result.is_err());
-    result.map_or_else(Refusal::number, |()| 0)
-}
-
 /// The same of a trailer.
 fn trailed(edition: u8, at: usize, count: u32, space: usize) -> u32 {
     let mut bytes = vec![0xFF; space];

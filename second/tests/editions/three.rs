@@ -1,7 +1,7 @@
 //! Edition 3 of the query file: its bytes, round trips, and refusals 3, 5, 10, 12 and 14.
 
 use crate::common::*;
-use crate::{file, odd, trailed, written, NONE};
+use crate::{file, odd, trailed, NONE};
 use second::edition::Edition::{self, Three, Two};
 use second::edition::Range;
 use second::file::{fetch, file_of, open, record_at, Opened, RefusedFetch};
@@ -105,8 +105,8 @@ fn other_ranges_are_those_of_edition_2() {
     for (budget, must) in [(0, 6), (1, 0), (1_000_000, 0), (1_000_001, 6)] {
         assert_eq!(number(Record { budget, ..long() }), must);
     }
-    for bit in 0..32 {
-        assert_eq!(number(Record { spare: 1 << bit, ..long() }), 2);
+    for (cap, must) in [(1, 0), (1_048_576, 0), (1_048_577, 22), (u32::MAX, 22)] {
+        assert_eq!(number(Record { cap, ..long() }), must);
     }
     assert_eq!(number(Record { byte2: 1, ..long() }), 2);
     assert_eq!(number(Record { kind: 3, ..long() }), 1);

@@ -1,7 +1,7 @@
-//! Edition 2 of the query file: its bytes, round trips, and refusals 2, 4, 10, 12 and 14.
+//! Edition 2 of the query file: its bytes, round trips, and refusals 4, 10, 12 and 14.
 
 use crate::common::*;
-use crate::{file, odd, trailed, written, NONE};
+use crate::{file, odd, trailed, NONE};
 use second::edition::Edition::{One, Two};
 use second::edition::Range;
 use second::file::{fetch, open, trailer, write_record, Opened, RefusedFetch};
@@ -32,24 +32,6 @@ fn round_trip() {
         assert_eq!(fetch(&bytes, 3), Err(absent));
     }
     assert_eq!(open(&file(Two, 5, &[])), Ok(Opened { edition: Two, first: 5, count: 0 }));
-}
-
-#[test]
-fn spare_is_refused_2() {
-    for bit in 0..32 {
-        let record = Record { spare: 1 << bit, ..odd() };
-        assert_eq!(check_record(&record, Range::SHORTER), Err(Refusal::Flags));
-        assert_eq!(ask(record), second::search::Answer::Refused(Refusal::Flags));
-        assert_eq!([written(1, &record, 200), written(2, &record, 200)], [2, 2]);
-        let mut bytes = file(Two, 0, &[odd()]);
-        bytes[28 + bit / 8] = 1 << (bit % 8);
-        let id = Some(odd().id);
-        assert_eq!(fetch(&bytes, 0), Err(RefusedFetch { refusal: Refusal::Flags, id }));
-    }
-    let kind = Record { spare: 1, kind: 0, ..odd() };
-    assert_eq!(check_record(&kind, Range::SHORTER), Err(Refusal::Kind));
-    let far = Record { spare: 1, start: [[M + 1; 3]; 4], separations: [M as u32; 3], ..odd() };
-    assert_eq!(check_record(&far, Range::SHORTER), Err(Refusal::Flags));
 }
 
 #[test]

@@ -9,12 +9,14 @@ use second::search::search;
 use second::told::told;
 
 const SEEDS: u64 = 60;
-const SOUND: [&str; 11] = [
+const SOUND: [&str; 13] = [
     "bodies-near",
     "bodies-far",
     "bodies-ties",
+    "bodies-falling",
     "bodies-clumps",
     "bodies-touching",
+    "bodies-start",
     "bodies-together",
     "bodies-degenerate",
     "bodies-extreme",
@@ -73,7 +75,7 @@ fn shapes_bring_every_word_but_floor_at_nought_and_later() {
     for range in 0..2 {
         let (mut words, mut later) = ([0; 6], [0; 6]);
         let flavours = SOUND.map(|flavour| both(flavour)[range].clone());
-        for drawn in flavours.iter().flat_map(|flavour| drawn(flavour).take(12)) {
+        for drawn in flavours.iter().flat_map(|flavour| drawn(flavour).take(20)) {
             match answer(&drawn.bodies(), 64) {
                 BodiesAnswer::Clear { .. } => words[2] += 1,
                 BodiesAnswer::Least(Least { word, t, .. }) => {

@@ -10,24 +10,25 @@ use second::text::sweep;
 
 const SEEDS: u64 = 40;
 
-/// FNV-1a of the files of seeds 1 to 3, behind each other, in edition 1 and in edition 2, as they were before there was a later one.
+/// FNV-1a of the files of seeds 1 to 3, behind each other, in edition 1 and in edition 2, as they were before there was a later one;
+/// those of edition 2 with refused records among them as they are since its word at 28 is a cap.
 const BEFORE: [(&str, [u64; 2]); 17] = [
     ("tiny", [0x636F_7EAB_D5F6_D6BA, 0x7587_0C8E_4C2D_98D7]),
     ("full", [0xE322_00FE_2E89_4355, 0x9601_DF95_4808_8383]),
     ("degenerate", [0xB136_180E_19AC_F261, 0x68EF_1FE0_BD3B_2A4D]),
     ("extreme", [0x1FD9_A758_C4C3_5BA6, 0xCBA5_24E6_0DF5_CA88]),
-    ("mixed", [0x7065_5F54_C5B3_634B, 0xDDA5_BEB3_EAFB_28F6]),
+    ("mixed", [0x7065_5F54_C5B3_634B, 0xA109_FBBC_0C72_B770]),
     ("budget", [0x80E8_AC28_E8C8_76F5, 0xE5C2_E6F9_7889_DE70]),
     ("queue", [0x78B9_2E89_155F_A43D, 0xCFCE_3497_43AC_F605]),
-    ("refusals", [0x245B_1F5D_3F3F_5E2B, 0x5303_27F7_2E7A_CF21]),
+    ("refusals", [0x245B_1F5D_3F3F_5E2B, 0x322C_9CC9_23E0_3F99]),
     ("damaged", [0xB200_3575_CC5B_0822, 0xB388_B39F_3A04_D066]),
     ("truncated", [0x3431_5B38_9D9C_0073, 0x90EF_71E5_609D_8656]),
-    ("many", [0x3B3E_7E1B_36E5_D5BC, 0x2FBB_DA3C_8FFF_9B15]),
-    ("most", [0x1B73_1C98_330F_D621, 0xBB6E_DF02_60CA_EE57]),
-    ("edge65536", [0xD537_B9CD_AB79_4E07, 0x6EA6_4C0A_B238_1E7E]),
-    ("edge65537", [0x203B_B943_4DD7_7CDD, 0x241D_3BF3_2D7E_7F30]),
+    ("many", [0x3B3E_7E1B_36E5_D5BC, 0xA31D_8560_4FED_EE6E]),
+    ("most", [0x1B73_1C98_330F_D621, 0xA4D4_1AA8_69BA_2184]),
+    ("edge65536", [0xD537_B9CD_AB79_4E07, 0x5B9F_0172_F6FE_37D9]),
+    ("edge65537", [0x203B_B943_4DD7_7CDD, 0x9D38_87B4_F71A_057F]),
     ("empty", [0x8772_6BD5_5B40_2295, 0xA5E1_450A_7164_08CB]),
-    ("leading", [0xCF75_57BA_B280_574F, 0x1E5A_CCCD_30EE_E0EF]),
+    ("leading", [0xCF75_57BA_B280_574F, 0x99DD_E374_B807_FD90]),
     ("one", [0x781D_308B_7871_180C, 0x28AE_5132_1376_7385]),
 ];
 
@@ -44,14 +45,11 @@ fn number(record: &Record) -> u32 {
     check_record(record, Range::SHORTER).map_or_else(Refusal::number, |()| 0)
 }
 
-/// The record with the spare word and the separations of a sound one.
-fn without_edition_2(record: &Record) -> Record {
-    Record { spare: 0, separations: [0; 3], ..*record }
-}
-
 /// The flavours in their three editions; damage may turn the edition, otherwise the name says it.
 fn triples() -> Vec<[&'static str; 3]> {
-    let flavours = flavours();
+    let mut flavours = flavours();
+    // Edition 1 has no caps.
+    flavours.retain(|name| !name.starts_with("cap"));
     flavours.chunks(3).map(|names| names.try_into().expect("three editions each")).collect()
 }
 
@@ -102,14 +100,9 @@ fn separations_differ_behind_edition_1() {
 #[test]
 fn refusals_of_edition_2_stand_alone_and_together() {
     let records = all_records("refusals2");
-    for n in 1..=6 {
+    for n in [1, 2, 3, 4, 5, 6, 22] {
         assert!(records.iter().any(|record| number(record) == n), "{n}");
     }
-    let spare = |r: &&Record| r.spare != 0;
-    let alone = |r: &Record| number(r) == 2 && number(&without_edition_2(r)) == 0;
-    assert!(records.iter().filter(spare).any(alone));
-    assert!(records.iter().filter(spare).any(|r| number(r) == 1));
-    assert!(records.iter().filter(spare).any(|r| number(&Record { spare: 0, ..*r }) == 2));
     for axis in 0..3 {
         let only = |r: &Record| {
             number(r) == 4
@@ -117,7 +110,7 @@ fn refusals_of_edition_2_stand_alone_and_together() {
         };
         assert!(records.iter().any(only), "{axis}");
     }
-    assert!(all_records("refusals").iter().all(|record| record.spare == 0));
+    assert!(all_records("refusals").iter().all(|record| record.cap == 0));
 }
 
 #[test]
@@ -157,6 +150,7 @@ fn sizes_are_exact() {
 
 #[test]
 fn few_queries_bring_what_edition_2_adds() {
+    let mut refused_caps = 0;
     for seed in 1..=5 {
         let text = queries(seed, 60, Edition::Two);
         let lines: Vec<Vec<i64>> = text
@@ -166,6 +160,8 @@ fn few_queries_bring_what_edition_2_adds() {
         let number = |of: fn(&&Vec<i64>) -> bool| lines.iter().filter(of).count();
         assert!(number(|line| line[36] > 0 && line[6] != line[7] && line[7] != line[8]) >= 15);
         assert!(number(|line| line[36] > 0 && line[6] == line[7] && line[7] == line[8]) >= 5);
-        assert!(number(|line| line[11] != 0 && line[42] == 2) >= 1);
+        assert!(number(|line| line[11] != 0 && line[36] > 0) >= 5);
+        refused_caps += number(|line| line[42] == 22);
     }
+    assert!(refused_caps >= 5);
 }

@@ -1,6 +1,7 @@
 //! The generators: what each flavour promises.
 
 mod bodies;
+mod caps;
 #[path = "../common/mod.rs"]
 mod common;
 mod edition2;
@@ -128,13 +129,14 @@ fn greatest_widths_are_among_the_extreme() {
 #[test]
 fn refusals_are_all_there() {
     for flavour in each(&["refusals"]) {
-        let mut seen = [0; 7];
+        let mut seen = [0; 23];
         for (record, range) in files(&flavour).iter().flat_map(|file| ranged(file)) {
             if let Answer::Refused(refusal) = search(&record, range, 4096) {
                 seen[refusal.number() as usize] += 1;
             }
         }
-        assert!(seen[1..].iter().all(|number| *number > 0), "{flavour} {seen:?}");
+        assert!(seen[1..7].iter().all(|number| *number > 0), "{flavour} {seen:?}");
+        assert_eq!(seen[22] > 0, flavour != "refusals");
     }
 }
 
@@ -199,7 +201,7 @@ fn query(numbers: &[i64]) -> (usize, Record) {
         separations: [6, 7, 8].map(|n| numbers[n] as u32),
         tolerance: numbers[9] as u32,
         budget: numbers[10] as u32,
-        spare: numbers[11] as u32,
+        cap: numbers[11] as u32,
         start: [12, 15, 18, 21].map(point),
         end: [24, 27, 30, 33].map(point),
     };
@@ -212,7 +214,7 @@ fn queries_tell_the_answer_and_bring_every_sort() {
 }
 
 fn tell_the_answer_and_bring_every_sort(edition: Edition) {
-    let (mut words_seen, mut refusals_seen) = ([0; 6], [0; 8]);
+    let (mut words_seen, mut refusals_seen) = ([0; 6], [0; 23]);
     for line in queries(1, 2000, edition).lines() {
         let numbers: Vec<i64> = line.split(' ').map(|n| n.parse().unwrap()).collect();
         assert_eq!(numbers.len(), 43);
@@ -229,5 +231,6 @@ fn tell_the_answer_and_bring_every_sort(edition: Edition) {
         refusals_seen[numbers[42] as usize] += 1;
     }
     assert!(words_seen[..5].iter().all(|number| *number >= 100), "{words_seen:?}");
-    assert!(refusals_seen[1..].iter().all(|number| *number >= 10), "{refusals_seen:?}");
+    let refused = [1, 2, 3, 4, 5, 6, 7, 22];
+    assert!(refused.iter().all(|number| refusals_seen[*number] >= 5), "{refusals_seen:?}");
 }

@@ -50,7 +50,7 @@ impl Given {
             separations: if fault == Fault::SeparationsExchanged { [y, x, z] } else { [x, y, z] },
             tolerance,
             budget,
-            spare: if fault == Fault::CapIgnored { 0 } else { self.cap },
+            cap: if fault == Fault::CapIgnored { 0 } else { self.cap },
             start: points(&all[..12]),
             end: points(&all[12..24]),
         }

@@ -16,6 +16,7 @@ macro_rules! each {
 }
 
 pub mod bodies;
+pub mod caps;
 pub mod given;
 pub mod ranges;
 pub mod why;
@@ -25,7 +26,6 @@ use second::beside::Library;
 use second::edition::{Edition, Range};
 use second::file::{record_at, Opened, TRAILER_BYTES};
 use second::refusals::Refusal;
-use second::search::search;
 use second::told::told;
 use std::borrow::Cow;
 use std::fmt::Debug;
@@ -34,15 +34,15 @@ use std::slice::{from_raw_parts, from_raw_parts_mut};
 faults! {
     None CountOneMore ExcessOneLess LastWordLeft ClearedThoughRefused BeyondTold
     BeyondQueue WrittenThoughShort WrongNumber StopsAtRefused IndexCutTo32Bits SpaceBeforeIndex
-    IdOfTheFirst CountUnwritten SeparationOfX SpareIgnored EditionOneAlone
+    IdOfTheFirst CountUnwritten SeparationOfX EditionOneAlone
     EditionThreeRefused EditionFourTaken PartsNotDoubled OnlyTDoubled
 }
 
 /// The library with fault number N of the list.
 pub fn library<const N: usize>() -> Library {
     Library {
-        answer: answer::<N, 0>,
-        answers: answers::<N, 0>,
+        answer: answer::<N, 0, 0>,
+        answers: answers::<N, 0, 0>,
         count: count::<N>,
         ..ranged_library::<0>()
     }
@@ -51,8 +51,8 @@ pub fn library<const N: usize>() -> Library {
 /// The library with fault number R of the list of ranges.
 pub fn ranged_library<const R: usize>() -> Library {
     Library {
-        answer: answer::<0, R>,
-        answers: answers::<0, R>,
+        answer: answer::<0, R, 0>,
+        answers: answers::<0, R, 0>,
         count: count::<0>,
         copy: writing::copy::<0, R>,
         trailer: writing::trailer::<0>,
@@ -61,6 +61,11 @@ pub fn ranged_library<const R: usize>() -> Library {
         bodies: bodies::bodies::<0, R, false>,
         why: why::why::<0, R>,
     }
+}
+
+/// The library with fault number C of the list of caps.
+pub fn capped_library<const C: usize>() -> Library {
+    Library { answer: answer::<0, 0, C>, answers: answers::<0, 0, C>, ..library::<0>() }
 }
 
 /// The library with fault number N of the writers' list.
@@ -100,15 +105,19 @@ where
 }
 
 /// The eight numbers of record n, with the fault.
-fn record<const R: usize>(fault: Fault, file: &[u8], n: u32, words: usize) -> [u32; 8] {
+fn record<const R: usize, const C: usize>(
+    fault: Fault,
+    file: &[u8],
+    n: u32,
+    words: usize,
+) -> [u32; 8] {
     let (mut record, range) = record_at(file, n).unwrap();
-    match fault {
-        Fault::SeparationOfX => record.separations = [record.separations[0]; 3],
-        Fault::SpareIgnored => record.spare = 0,
-        _ => {}
+    if fault == Fault::SeparationOfX {
+        record.separations = [record.separations[0]; 3];
     }
     let mut numbers = [record.id; 8];
-    numbers[1..].copy_from_slice(&told(&search(&record, ranges::ranged::<R>(range), words)));
+    let answer = caps::answered::<C>(&record, ranges::ranged::<R>(range), words);
+    numbers[1..].copy_from_slice(&told(&answer));
     match fault {
         Fault::CountOneMore if numbers[6] > 5 => numbers[6] += 1,
         Fault::ExcessOneLess if numbers[5] > 1 => numbers[5] -= 1,
@@ -164,7 +173,7 @@ fn clear(fault: Fault, queue: *mut u64, words: usize, any: bool) {
     }
 }
 
-unsafe extern "C" fn answers<const N: usize, const R: usize>(
+unsafe extern "C" fn answers<const N: usize, const R: usize, const C: usize>(
     file: *const u8,
     file_len: usize,
     queue: *mut u64,
@@ -187,7 +196,7 @@ unsafe extern "C" fn answers<const N: usize, const R: usize>(
     }
     let mut any = false;
     for n in 0..opened.count {
-        let numbers = record::<R>(fault, &file, n, words);
+        let numbers = record::<R, C>(fault, &file, n, words);
         let at = 8 * n as usize;
         told[at..at + 8].copy_from_slice(&numbers);
         any |= numbers[1] != 0;
@@ -203,7 +212,7 @@ unsafe extern "C" fn answers<const N: usize, const R: usize>(
     0
 }
 
-unsafe extern "C" fn answer<const N: usize, const R: usize>(
+unsafe extern "C" fn answer<const N: usize, const R: usize, const C: usize>(
     file: *const u8,
     file_len: usize,
     n: usize,
@@ -228,7 +237,7 @@ unsafe extern "C" fn answer<const N: usize, const R: usize>(
     if lent < 8 {
         return 14;
     }
-    let numbers = record::<R>(fault, &file, n as u32, words);
+    let numbers = record::<R, C>(fault, &file, n as u32, words);
     from_raw_parts_mut(told, lent)[..8].copy_from_slice(&numbers);
     clear(fault, queue, words, numbers[1] != 0);
     0

@@ -4,7 +4,7 @@ use super::ranges::ranged;
 use second::edition::{Edition, Range};
 use second::file::{record_at, MOST_RECORDS, TRAILER_BYTES};
 use second::record::Record;
-use second::refusals::{check_record, check_within, Refusal};
+use second::refusals::{check_record, check_within, Refusal, MOST_CAP};
 use std::slice::{from_raw_parts, from_raw_parts_mut};
 
 faults! {
@@ -19,6 +19,8 @@ faults! {
     BytesBeforeUpToTheEnd MostRecordsRefused OneRecordMoreTaken
     EditionThreeRefused SourceRangeKept TargetRangeAlone LongerRangeForNone
     TrailerEditionThreeRefused TrailerOfEditionTwo
+    CapUnchecked CapWrittenAsZero CapDroppedInOne WholeStepTakenInOne CapRefusedByTwo CapRefusedByFour
+    CapBeforeSeparation CapAfterSpace
 }
 
 fn number<T>(result: Result<T, Refusal>) -> u32 {
@@ -104,7 +106,18 @@ fn changed(fault: Fault, edition: u8, record: Record) -> Record {
     match fault {
         Fault::FlagCleared => Record { flags: record.flags & 0xFE, ..record },
         Fault::UnequalWrittenAsX if edition == 1 => Record { separations: [x; 3], ..record },
+        _ if loses_cap(fault, edition, record.cap) => Record { cap: 0, ..record },
         _ => record,
+    }
+}
+
+/// True where a cap that is none to refuse, or only for want of room, is taken for 0.
+fn loses_cap(fault: Fault, edition: u8, cap: u32) -> bool {
+    match fault {
+        Fault::CapDroppedInOne => edition == 1 && cap <= MOST_CAP,
+        Fault::WholeStepTakenInOne => edition == 1 && cap == MOST_CAP,
+        Fault::CapWrittenAsZero => edition != 1 && cap <= MOST_CAP,
+        _ => false,
     }
 }
 
@@ -133,8 +146,10 @@ fn copy_refusal(
         Fault::PlaceAndSizeWrap => room.at.wrapping_add(size) > room.lent,
         _ => bytes < size,
     });
-    let of_record = number(check_within(record, target, edition == 1));
-    let fetched = number(check_record(record, source));
+    let capless = Record { cap: 0, ..*record };
+    let checked = if fault == Fault::CapUnchecked { &capless } else { record };
+    let of_record = number(check_within(checked, target, edition == 1));
+    let fetched = number(check_record(checked, source));
     let refused = fault == Fault::EditionThreeRefused && edition == 3;
     let edition = if refused { 10 } else { number(Edition::of(edition)) };
     match fault {
@@ -144,6 +159,10 @@ fn copy_refusal(
         Fault::SeparationAfterSpace => first([fetched, edition, space, of_record]),
         Fault::SeparationBeforeFetch => first([of_record, fetched, edition, space]),
         Fault::RecordUnchecked => first([edition, space, 0, 0]),
+        Fault::CapRefusedByTwo if record.cap != 0 => Refusal::Flags.number(),
+        Fault::CapRefusedByFour if [fetched, of_record] == [0, 22] => 4,
+        Fault::CapBeforeSeparation if [fetched, of_record] == [0, 4] && record.cap != 0 => 22,
+        Fault::CapAfterSpace if of_record == 22 => first([fetched, edition, space, of_record]),
         _ => first([fetched, of_record, edition, space]),
     }
 }

@@ -1,12 +1,14 @@
 -- `bodies::hear_query` meets its contract: one query built, searched and heard. Assumes nothing.
-use mathlib.Core.Path.{ap, _∙_}
+use mathlib.Core.Path.{_≡_, ap, _∙_}
 use Prim.Native.Nat.{_+_}
 use lib.ListN.{length}
 use Rattle.rules.specs.declared.Record.{Record}
 use Rattle.rules.specs.Answers.{told}
 use Rattle.rules.specs.Refusals.{searchRefusal}
 use Rattle.rules.specs.Search.{search as searched}
+use Rattle.rules.specs.Bodies.{askOf, capOf, capped}
 use Rattle.triangles.specs.Members.{asked, askAt}
+use Rattle.triangles.specs.InOrder.{capped-none}
 use Rattle.bodies.specs.Walk.{positions}
 use Rattle.bodies.proofs.Walking.{heard-one, not-refused}
 use borrow.Author.Needs.{needs}
@@ -16,12 +18,22 @@ use Rattle.bodies.proofs.hear_query.Tie as tie
 query-at-requires : tie.Need-query-at-requires
 query-at-requires c κs = search needs
 
+cap-of-requires : tie.Need-cap-of-requires
+cap-of-requires c κs = search needs
+
+-- what is searched: the query, with the least time so far as its cap
+asks : (c : tie.After-cap-of) → let a = c .before .before .before .args in
+    capped (c .cap-of .result) (c .before .query-at .result) ≡ capped (capOf (a .sofar)) (askOf (a .w) (positions (a .a0 .now) (a .a1 .now)) (positions (a .b0 .now) (a .b1 .now)) (a .i) (a .j) (askAt (a .k)))
+asks c = λ i. capped (c .cap-of .ensures i) (c .before .query-at .ensures 0 0 i)
+
 search-accepted-requires : tie.Need-search-accepted-requires
+unfolding capped
 search-accepted-requires c κs =
-    let k = c .before .before .before in
+    let k = c .before .before .before .before in
     let h = k .pre .to-hear in
+    let words = length (k .args .queue .now) in
     record {
-      none = ap (λ (r : Record). searchRefusal r (length (k .args .queue .now))) (c .before .query-at .ensures 0 0) ∙ not-refused _ _ (h .none);
+      none = ap (λ (r : Record). searchRefusal r words) (asks (c .before)) ∙ capped-none (capOf (k .args .sofar)) words _ (h .step) (not-refused _ _ (h .none));
       zero = h .zero;
     }
 
@@ -47,15 +59,15 @@ same-length : tie.Need-same-length
 same-length c = search needs
 
 returns : tie.Need-returns
+unfolding capped
 returns c =
-    let k = c .before .before .before .before .before .before .before .before in
+    let k = c .before .before .before .before .before .before .before .before .before in
     let a = k .args in
     let words = length (a .queue .now) in
     let s = c .before .before .before .before .search-accepted .ensures in
-    let q = c .before .before .before .before .before .before .query-at .ensures 0 0 in
     record {
-      says = heard-one words (a .sofar) (asked (a .w) (positions (a .a0 .now) (a .a1 .now)) (positions (a .b0 .now) (a .b1 .now)) (a .i) (a .j) (1 + a .k) (askAt (a .k))) _ _
-          (c .before .numbers .ensures ∙ ap told (s .0 ∙ ap (λ (r : Record). searched r words) q)) (c .heard .ensures .says _);
+      says = heard-one words (a .sofar) (asked (a .w) (positions (a .a0 .now) (a .a1 .now)) (positions (a .b0 .now) (a .b1 .now)) (a .i) (a .j) (1 + a .k) (askAt (a .k))) _ _ (k .pre .to-hear .goes)
+          (c .before .numbers .ensures ∙ ap told (s .0 ∙ ap (λ (r : Record). searched r words) (asks (c .before .before .before .before .before .before)))) (c .heard .ensures .says _);
       kept = s .1 .0;
       grows = c .heard .ensures .grows;
     }
@@ -65,6 +77,7 @@ hear-query-spec =
     tie.close
     (tie.spec
     query-at-requires
+    cap-of-requires
     search-accepted-requires
     cast-heard
     cast-heard-2

@@ -1,12 +1,14 @@
 -- `bodies::hear_row` meets its contract: pair after pair, those that are apart passed over. Assumes nothing.
 use Prim.Native.Nat.{_+_, _*_, _-_, _≤_}
-use mathlib.Core.Path.{_≡_, refl, ap}
+use mathlib.Core.Path.{_≡_, refl, sym, ap, _∙_}
+use mathlib.Core.Bool.{false}
+use borrow.Author.Needs.{needs}
 use native.Mathlib.Omega.{arith}
 use lib.ListN.{length}
-use Rattle.rules.specs.Bodies.{pairQueries}
+use Rattle.rules.specs.Bodies.{pairQueries, isOver}
 use Rattle.bodies.specs.Walk.{positions, rowQueries}
-use Rattle.bodies.proofs.Walking.{Going, going-none, going-asks, going-more, going-then, going-all, eachLeft, each-start, each-next, each-end}
-use Rattle.bodies.proofs.Passing.{passed-over}
+use Rattle.bodies.proofs.Walking.{Going, going-none, going-asks, going-more, going-then, going-all, going-over, eachLeft, each-start, each-next, each-end}
+use Rattle.bodies.proofs.Passing.{passed-over, still-goes}
 use Rattle.bodies.proofs.hear_row.Statement.{statement}
 use Rattle.bodies.proofs.hear_row.Tie as tie
 
@@ -15,7 +17,8 @@ abbrev Inv-loop : tie.InvT-loop
 Inv-loop w a0 a1 i n b0 b1 queue₀ reach j₀ sofar₀ queue j sofar =
     (j₀ ≤ j)
     × ((j ≤ n)
-    × Going (15 * (j - j₀)) (eachLeft n (λ j. pairQueries w (positions a0 a1) (positions b0 b1) i j) j₀) (eachLeft n (λ j. pairQueries w (positions a0 a1) (positions b0 b1) i j) j) queue₀ queue sofar₀ sofar)
+    × (Going (15 * (j - j₀)) (eachLeft n (λ j. pairQueries w (positions a0 a1) (positions b0 b1) i j) j₀) (eachLeft n (λ j. pairQueries w (positions a0 a1) (positions b0 b1) i j) j) queue₀ queue sofar₀ sofar
+    × (isOver sofar ≡ false)))
 
 abbrev μ-loop : tie.MeasureT-loop
 μ-loop w a0 a1 i n b0 b1 queue₀ reach j₀ sofar₀ queue j sofar = n - j
@@ -46,14 +49,15 @@ begun c =
     let a = s .args in
     let e : near .result ≡ near .result - 0 = omega arith in
     let t : 0 + 15 * near .result ≡ 15 * near .result = omega arith in
-    passed-over (a .w) (a .a0 .now) (a .a1 .now) (a .b0 .now) (a .b1 .now) (a .i) (a .n) (c .before .before .reach-of .ensures) _ _ _ _ (near .ensures) e (c .counted .ensures) _ t (going-none 3840 _ _ _ _ (each-start _ _) (s .pre .to-hear))
+    passed-over (a .w) (a .a0 .now) (a .a1 .now) (a .b0 .now) (a .b1 .now) (a .i) (a .n) (c .before .before .reach-of .ensures) _ _ _ _ (s .pre .to-hear .goes) (near .ensures) e (c .counted .ensures) _ t (going-none 3840 _ _ _ _ (each-start _ _) (s .pre .to-hear))
 
 loop-holds : tie.Need-loop-holds Inv-loop μ-loop
 loop-holds c =
     let near = c .before .next-near in
     let g = begun c in
     let e : 0 ≡ 15 * (near .result - near .result) = omega arith in
-    (omega arith, (near .ensures .most, record { same = refl; none = g .none; kept = refl; grows = omega arith }))
+    let s = c .before .before .before .before in
+    (omega arith, (near .ensures .most, (record { same = refl; none = g .none; kept = refl; grows = omega arith; step = g .step }, still-goes (15 * near .result) (s .args .first) (c .counted .result) (s .pre .to-hear .goes) (c .counted .ensures))))
 
 hear-pair-requires : tie.Need-hear-pair-requires Inv-loop μ-loop
 hear-pair-requires c κs =
@@ -65,15 +69,30 @@ hear-pair-requires c κs =
       end = record { of-a = p .end-of-a; of-b = omega (arith, p .end-of-b) };
       first = p .first;
       second = omega (arith, p .count);
-      to-hear = going-asks _ 15 _ _ _ _ _ _ _ _ (going-then (begun (l .before)) (v .1 .1)) (each-next _ _ (l .loop .j) (omega arith)) 3840 (omega (arith, p .count, v .0)) (p .to-hear .zero) (p .to-hear .room);
+      to-hear = going-asks _ 15 _ _ _ _ _ _ _ _ (going-then (begun (l .before)) (v .1 .1 .0)) (each-next _ _ (l .loop .j) (omega arith)) (v .1 .1 .1) 3840 (omega (arith, p .count, v .0)) (p .to-hear .zero) (p .to-hear .room);
     }
+
+is-over-requires : tie.Need-is-over-requires Inv-loop μ-loop
+is-over-requires c κs = search needs
+
+same-length : tie.Need-same-length Inv-loop μ-loop
+same-length c = ap length (c .before .before .before .before .hear-pair .ensures .kept ∙ c .before .before .before .before .before .before .before .loop .inv .1 .1 .0 .kept)
+
+-- a time of 0 ends it
+returns : tie.Need-returns Inv-loop μ-loop
+returns c =
+    let l = c .before .before .before .before .before .before .before in
+    let p = l .before .before .before .before .before .pre in
+    let v = l .loop .inv in
+    going-over _ 3840 _ _ _ _ _ _ (going-then (begun (l .before)) (going-more (15 * (l .loop .j - l .before .before .next-near .result)) 15 _ _ _ _ _ _ _ _ (v .1 .1 .0) (each-next _ _ (l .loop .j) (omega arith)) (15 * (l .loop .j - l .before .before .next-near .result) + 15) (omega arith) _ _ (c .before .before .before .before .hear-pair .ensures)))
+    (sym (c .before .is-over .ensures) ∙ c .if1 .taken) (omega (arith, p .count, v .0))
 
 add-next-near : tie.Need-add-next-near Inv-loop μ-loop
 add-next-near c = omega arith
 
 next-near-requires-2 : tie.Need-next-near-requires-2 Inv-loop μ-loop
 next-near-requires-2 c κs =
-    let l = c .before .before .before .before .before in
+    let l = c .before .before .before .before .before .before .before in
     let p = l .before .before .before .before .before .pre in
     (l .before .before .before .reach-of .ensures .wide, (omega arith, (p .start-of-b, p .end-of-b)))
 
@@ -85,43 +104,47 @@ sub-counted c = omega (arith, c .next-near2 .ensures .later)
 
 mul-counted-2 : tie.Need-mul-counted-2 Inv-loop μ-loop
 mul-counted-2 c =
-    let p = c .before .before .before .before .before .before .before .before .before .before .before .pre in
+    let p = c .before .before .before .before .before .before .before .before .before .before .before .before .before .pre in
     omega (arith, c .next-near2 .ensures .most, c .next-near2 .ensures .later, p .count)
 
 counted-requires-2 : tie.Need-counted-requires-2 Inv-loop μ-loop
 counted-requires-2 c κs =
-    let l = c .before .before .before .before .before .before in
+    let l = c .before .before .before .before .before .before .before .before in
     let p = l .before .before .before .before .before .pre in
-    let g = going-then (begun (l .before)) (l .loop .inv .1 .1) in
-    omega (arith, c .next-near2 .ensures .most, c .next-near2 .ensures .later, p .count, p .to-hear .room, g .grows, c .before .before .before .hear-pair .ensures .grows, l .loop .inv .0)
+    let g = going-then (begun (l .before)) (l .loop .inv .1 .1 .0) in
+    omega (arith, c .next-near2 .ensures .most, c .next-near2 .ensures .later, p .count, p .to-hear .room, g .grows, c .before .before .before .before .before .hear-pair .ensures .grows, l .loop .inv .0)
 
 loop-less : tie.Need-loop-less Inv-loop μ-loop
 loop-less c = omega (arith, c .before .next-near2 .ensures .later, c .before .next-near2 .ensures .most)
 
 loop-again : tie.Need-loop-again Inv-loop μ-loop
 loop-again c =
-    let l = c .before .before .before .before .before .before .before in
+    let l = c .before .before .before .before .before .before .before .before .before in
     let a = l .before .before .before .before .before .args in
     let near = c .before .next-near2 in
     let v = l .loop .inv in
+    let o = sym (c .before .before .before .is-over .ensures) ∙ c .before .before .if1 .left in
     let t : 15 * (l .loop .j - l .before .before .next-near .result) + 15 + 15 * (near .result - (l .loop .j + 1)) ≡ 15 * (near .result - l .before .before .next-near .result) = omega (arith, v .0, near .ensures .later) in (
       omega (arith, v .0, near .ensures .later),
       (
         near .ensures .most,
-        passed-over (a .w) (a .a0 .now) (a .a1 .now) (a .b0 .now) (a .b1 .now) (a .i) (a .n) (l .before .before .before .reach-of .ensures) _ _ _ _ (near .ensures) refl (c .counted2 .ensures) _ t
-            (going-more _ 15 _ _ _ _ _ _ _ _ (v .1 .1) (each-next _ _ (l .loop .j) (omega arith)) _ (omega arith) _ _ (c .before .before .before .before .hear-pair .ensures)),
+        (
+          passed-over (a .w) (a .a0 .now) (a .a1 .now) (a .b0 .now) (a .b1 .now) (a .i) (a .n) (l .before .before .before .reach-of .ensures) _ _ _ _ o (near .ensures) refl (c .counted2 .ensures) _ t
+              (going-more (15 * (l .loop .j - l .before .before .next-near .result)) 15 _ _ _ _ _ _ _ _ (v .1 .1 .0) (each-next _ _ (l .loop .j) (omega arith)) (15 * (l .loop .j - l .before .before .next-near .result) + 15) (omega arith) _ _ (c .before .before .before .before .before .before .hear-pair .ensures)),
+          still-goes (15 * (near .result - (l .loop .j + 1))) (c .before .before .before .before .before .before .hear-pair .result) (c .counted2 .result) o (c .counted2 .ensures),
+        ),
       ),
     )
 
-same-length : tie.Need-same-length Inv-loop μ-loop
-same-length c = ap length (c .before .loop .inv .1 .1 .kept)
+same-length-2 : tie.Need-same-length-2 Inv-loop μ-loop
+same-length-2 c = ap length (c .before .loop .inv .1 .1 .0 .kept)
 
-returns : tie.Need-returns Inv-loop μ-loop
-returns c =
+returns-2 : tie.Need-returns-2 Inv-loop μ-loop
+returns-2 c =
     let l = c .before in
     let p = l .before .before .before .before .before .pre in
     let v = l .loop .inv in
-    going-all _ 3840 _ _ _ _ _ _ (going-then (begun (l .before)) (v .1 .1)) (each-end _ _ (l .loop .j) (omega arith)) (omega (arith, p .count, v .0))
+    going-all _ 3840 _ _ _ _ _ _ (going-then (begun (l .before)) (v .1 .1 .0)) (each-end _ _ (l .loop .j) (omega arith)) (omega (arith, p .count, v .0))
 
 pub hear-row-spec : {M : Type 1} → statement M
 hear-row-spec =
@@ -135,6 +158,9 @@ hear-row-spec =
     counted-requires
     loop-holds
     hear-pair-requires
+    is-over-requires
+    same-length
+    returns
     add-next-near
     next-near-requires-2
     add-counted
@@ -143,5 +169,5 @@ hear-row-spec =
     counted-requires-2
     loop-less
     loop-again
-    same-length
-    returns)
+    same-length-2
+    returns-2)

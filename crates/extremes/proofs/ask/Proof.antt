@@ -23,8 +23,8 @@ near-requires c κs =
 split-requires : tie.Need-split-requires
 split-requires c κs = search needs
 
-inside-requires : tie.Need-inside-requires
-inside-requires c κs = search needs
+in-face-requires : tie.Need-in-face-requires
+in-face-requires c κs = search needs
 
 returns : tie.Need-returns
 returns c = search needs
@@ -38,5 +38,5 @@ ask-spec =
     survives-in-requires
     near-requires
     split-requires
-    inside-requires
+    in-face-requires
     returns)

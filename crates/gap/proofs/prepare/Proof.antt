@@ -31,12 +31,16 @@ cast-tolerance c = let s = c .before .before .before .before .before .before .be
 depth-limit-requires : tie.Need-depth-limit-requires
 depth-limit-requires c κs = search needs
 
+last-moment-requires : tie.Need-last-moment-requires
+last-moment-requires c κs = search needs
+
 returns : tie.Need-returns
 returns c =
-    let k = c .before .before .before .before .before .before .before in
+    let d = c .before in
+    let k = d .before .before .before .before .before .before .before in
     let s = k .before .before .before .before in
-    rw (k .kernel-at .ensures, c .before .before .before .before .before .before .kernel-at2 .ensures, c .before .before .before .before .before .kernel-at3 .ensures, c .depth-limit .ensures) (pair-prepared (s .args .r) (s .args .words) (s .pre))
+    rw (c .last-moment .ensures, d .depth-limit .ensures, k .kernel-at .ensures, d .before .before .before .before .before .before .kernel-at2 .ensures, d .before .before .before .before .before .kernel-at3 .ensures) (pair-prepared (s .args .r) (s .args .words) (s .pre))
 
 pub prepare-spec : {M : Type 1} → statement M
 prepare-spec =
-    tie.close (tie.spec kernel-at-requires kernel-at-requires-2 kernel-at-requires-3 cast-dx cast-dy cast-dz cast-tolerance depth-limit-requires returns)
+    tie.close (tie.spec kernel-at-requires kernel-at-requires-2 kernel-at-requires-3 cast-dx cast-dy cast-dz cast-tolerance depth-limit-requires last-moment-requires returns)

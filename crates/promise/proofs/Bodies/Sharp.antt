@@ -12,7 +12,7 @@ use Rattle.rules.specs.declared.Axis.the-variants.{X, Y, Z}
 use Rattle.rules.specs.Gap.{Place, OnBodies, Contact, moving, vertexFace, edgeEdge, gapOn, negateFrom, sided}
 use Rattle.rules.specs.Refusals.{first, every, searchRefusal}
 use Rattle.rules.specs.Search.{search, run, levels, afterLevel, ifRoom, halves, merge, takeIn, notAfter, those, inside, split, winner, spread, check, oneBox, near, firstSurvivor, corner, excess, width, survives, least, greatest, overCorners, unless}
-use Rattle.rules.specs.Bodies.{Body, askOf, askedFrom, eachFrom, queriesOf, firstRefused, bodyRefusal, counted, isLess, sumOf, heard, hearAll, bodyUnless, bodySearch}
+use Rattle.rules.specs.Bodies.{Body, askOf, askedFrom, eachFrom, queriesOf, firstRefused, bodyRefusal, counted, isLess, sumOf, heard, capOf, capped, isOver, hearNext, hearAll, bodyUnless, bodySearch}
 use Rattle.rules.specs.BodyExamples.{level, moves, touching, quay, falls}
 use Rattle.promise.specs.Bodies.{C1, Way, vertex-face, way, NotBefore, BodiesPromised}
 
@@ -42,8 +42,8 @@ not-always-clear words n p = p .no-contact 0 0 (omega arith) (omega arith) (vert
 abbrev above : Body
 above = moves 1 (level (pos 1000)) (level (pos 1))
 
-rows : (Least 0 0 0 1 1 0 15 ≡ bodySearch (touching 999) quay quay 4096) × (Clear 15 ≡ bodySearch (touching 999) above quay 4096)
-unfolding bodySearch bodyUnless bodyRefusal queriesOf eachFrom askedFrom askOf firstRefused hearAll heard counted isLess sumOf search run levels afterLevel ifRoom halves merge takeIn notAfter those inside split winner spread check oneBox near firstSurvivor corner excess width survives least greatest overCorners unless first every searchRefusal moving vertexFace edgeEdge gapOn negateFrom sided
+rows : (Least 0 0 0 1 1 0 1 ≡ bodySearch (touching 999) quay quay 4096) × (Clear 15 ≡ bodySearch (touching 999) above quay 4096)
+unfolding bodySearch bodyUnless bodyRefusal queriesOf eachFrom askedFrom askOf firstRefused hearAll hearNext isOver capped capOf heard counted isLess sumOf search run levels afterLevel ifRoom halves merge takeIn notAfter those inside split winner spread check oneBox near firstSurvivor corner excess width survives least greatest overCorners unless first every searchRefusal moving vertexFace edgeEdge gapOn negateFrom sided
 rows = (refl, refl)
 
 -- what would be promised of every contact of triangles that are let in, by number and count
@@ -61,7 +61,7 @@ Later (Refused number) m = Unit {0}
 pub not-strictly-earlier : OfEvery _<_ Later → ⊥
 unfolding askOf gapOn vertexFace edgeEdge moving negateFrom sided
 not-strictly-earlier f =
-    omega (arith, f (touching 999) quay quay 4096 (Least 0 0 0 1 1 0 15) (rows .0) 0 0 (omega arith) (omega arith) (vertex-face C1) (at 2 0 0 0) (here _ _ (omega arith) (omega arith) (omega arith)) contact)
+    omega (arith, f (touching 999) quay quay 4096 (Least 0 0 0 1 1 0 1) (rows .0) 0 0 (omega arith) (omega arith) (vertex-face C1) (at 2 0 0 0) (here _ _ (omega arith) (omega arith) (omega arith)) contact)
   where
     contact : Contact (asks quay 0) (at 2 0 0 0)
     contact X = omega arith

@@ -2,7 +2,8 @@
 use mathlib.Core.Path.{_≡_, refl, sym, ap, _∙_, subst}
 use mathlib.Core.Logic.{_⊎_, inl, inr, ⊎-map}
 use mathlib.Core.Bool.{Bool, true, false, not, cond, _&&_, _||_}
-use Prim.Native.Nat.{ℕ, zero, suc, _+_, _<_}
+use Prim.Native.Nat.{ℕ, zero, suc, _+_, _*_, _<_}
+use native.Mathlib.Nat.{mul-le-mul-right, le-of-mul-le-mul-right}
 use native.Mathlib.Omega.{arith}
 use lib.ListN.{length}
 use lib.Dec.{T, leb, ltb, eqb, leb→le, le→leb, ltb→lt, lt→ltb, eqb→eq}
@@ -13,13 +14,14 @@ use Rattle.rules.specs.declared.Answer.{Answer}
 use Rattle.rules.specs.declared.Reason.{Reason}
 use Rattle.rules.specs.declared.Ruling.{Ruling}
 use Rattle.rules.specs.declared.Ruling.the-variants.{Discarded, Refused}
-use Rattle.rules.specs.Numbers.{parts}
+use Rattle.rules.specs.Numbers.{parts, lastMoment}
 use Rattle.rules.specs.Gap.{OnBodies, isVertexFace}
 use Rattle.rules.specs.Answers.{told, hasMoment}
 use Rattle.rules.specs.Refusals.{first, orElse, searchRefusal}
 use Rattle.rules.specs.Search.{Query, query, Checked, afterLevel, ifRoom, levels, run, search, unless}
 use Rattle.rules.specs.Why.{inDomain, isBefore, wholeDomain, fromWhole, whyRefusal, unlessWhy, whySearch}
 use Rattle.kernel.specs.Ranges.{editions-deep}
+use Rattle.promise.specs.Promise.{UpToCap}
 use Rattle.promise.specs.Why.{pointed, down, whole, next, Own-levels, WasDiscarded, Named, Names-discarded, First, Names-the-first, NotYet, Named-exactly, Why-refused-exactly}
 use Rattle.promise.proofs.Survive.{and-both, and-intro}
 use Rattle.promise.proofs.Domain.{Domain, on-bodies}
@@ -53,6 +55,9 @@ module _ (r : Record) (words : ℕ) (at : Three) where
   abbrev ft : Bool
   ft = leb (at .t) parts
 
+  abbrev fc : Bool
+  fc = leb (at .t) (lastMoment (r .cap))
+
   abbrev fu : Bool
   fu = leb (at .u) parts
 
@@ -65,26 +70,28 @@ module _ (r : Record) (words : ℕ) (at : Three) where
   to-domain : T (inDomain r at) → Domain (query r words) (pointed at)
   unfolding inDomain
   to-domain t =
-      let a = and-both (ft && fu && fv) (not (isVertexFace r) || fs) t in
-      let b = and-both (ft && fu) fv (a .0) in
-      let c = and-both ft fu (b .0) in
+      let a = and-both (ft && fc && fu && fv) (not (isVertexFace r) || fs) t in
+      let b = and-both (ft && fc && fu) fv (a .0) in
+      let c = and-both (ft && fc) fu (b .0) in
+      let d = and-both ft fc (c .0) in
       record {
         positive = omega arith;
-        t = leb→le _ _ (c .0);
+        t = leb→le _ _ (d .0);
         u = leb→le _ _ (c .1);
         v = leb→le _ _ (b .1);
         face = λ f. leb→le _ _ (face (isVertexFace r) fs f (a .1));
+        until = mul-le-mul-right parts (leb→le _ _ (d .1));
       }
     where
       face : (f x : Bool) → T f → T (not f || x) → T x
       face true x p t = t
       face false x p t = absurd p
 
-  from-domain : OnBodies r (pointed at) → T (inDomain r at)
+  from-domain : OnBodies r (pointed at) → UpToCap r (pointed at) → T (inDomain r at)
   unfolding inDomain
-  from-domain d =
-      and-intro (ft && fu && fv) (not (isVertexFace r) || fs)
-      (and-intro (ft && fu) fv (and-intro ft fu (le→leb _ _ (d .t)) (le→leb _ _ (d .u))) (le→leb _ _ (d .v)))
+  from-domain d h =
+      and-intro (ft && fc && fu && fv) (not (isVertexFace r) || fs)
+      (and-intro (ft && fc && fu) fv (and-intro (ft && fc) fu (and-intro ft fc (le→leb _ _ (d .t)) (le→leb _ _ (le-of-mul-le-mul-right h (omega arith)))) (le→leb _ _ (d .u))) (le→leb _ _ (d .v)))
       (face (isVertexFace r) (λ f. le→leb _ _ (d .face f)))
     where
       face : (f : Bool) → (T f → T fs) → T (not f || fs)
@@ -175,11 +182,11 @@ has-box r words at free = go (whyRefusal r words at) free (fromWhole r words at)
 pub named-exactly : Named-exactly
 unfolding whySearch unlessWhy
 named-exactly r words at =
-    (λ p. given (whyRefusal r words at) refl (p .0) (p .1), λ p. has-box r words at (due-none r words at (p .0) (from-domain r words at (p .1)) (to-before r words at (search r words) (p .2))))
+    (λ p. given (whyRefusal r words at) refl (p .0) (p .1), λ p. has-box r words at (due-none r words at (p .0) (from-domain r words at (p .1) (p .2)) (to-before r words at (search r words) (p .3))))
   where
     given : (n : ℕ) → whyRefusal r words at ≡ n → (x : Reason) → unlessWhy n (fromWhole r words at) ≡ Discarded x
-        → (searchRefusal r words ≡ 0) × OnBodies r (pointed at) × NotYet (told (search r words)) at
-    given zero e x f = let h = none-due r words at e in (h .0, on-bodies r words (to-domain r words at (h .1)), from-before r words at (search r words) (h .2))
+        → (searchRefusal r words ≡ 0) × OnBodies r (pointed at) × UpToCap r (pointed at) × NotYet (told (search r words)) at
+    given zero e x f = let h = none-due r words at e in (h .0, on-bodies r words (to-domain r words at (h .1)), to-domain r words at (h .1) .until, from-before r words at (search r words) (h .2))
     given (suc n) e x f = let z : _≡_ {A = ℕ} 0 1 = cc in absurd (omega arith)
 
 pub why-refused-exactly : Why-refused-exactly

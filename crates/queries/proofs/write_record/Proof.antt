@@ -7,19 +7,20 @@ use Rattle.queries.proofs.write_record.Statement.{statement}
 use Rattle.queries.proofs.write_record.Tie as tie
 
 -- the number that the tests come to
-number : (c : tie.After-refusal-with) → let a = c .before .before .before .before .before .before .before .before .before .args in
+number : (c : tie.After-refusal-with) → let a = c .before .before .before .before .before .before .before .before .before .before .args in
     c .refusal-with .result ≡ writeRefusal (a .edition) (a .s .now) (a .at) (a .r)
 number c =
-    let a = c .before .before .before .before .before .before .before .before .before .args in
+    let a = c .before .before .before .before .before .before .before .before .before .before .args in
     simp (
       c .refusal-with .ensures,
       c .before .in-edition .ensures,
-      c .before .before .has-room .ensures,
-      c .before .before .before .first2 .ensures,
-      c .before .before .before .before .is-edition .ensures,
-      c .before .before .before .before .before .first .ensures,
-      c .before .before .before .before .before .before .left-from .ensures,
-      c .before .before .before .before .before .before .before .record-size .ensures,
+      c .before .before .has-cap-room .ensures,
+      c .before .before .before .has-room .ensures,
+      c .before .before .before .before .first2 .ensures,
+      c .before .before .before .before .before .is-edition .ensures,
+      c .before .before .before .before .before .before .first .ensures,
+      c .before .before .before .before .before .before .before .left-from .ensures,
+      c .before .before .before .before .before .before .before .before .record-size .ensures,
     )
     (sym (write-is (a .edition) (a .s .now) (a .at) (a .r)))
 
@@ -44,6 +45,9 @@ first-requires-2 c κs = search needs
 has-room-requires : tie.Need-has-room-requires
 has-room-requires c κs = search needs
 
+has-cap-room-requires : tie.Need-has-cap-room-requires
+has-cap-room-requires c κs = search needs
+
 in-edition-requires : tie.Need-in-edition-requires
 in-edition-requires c κs = search needs
 
@@ -53,13 +57,13 @@ refusal-with-requires c κs = search needs
 returns : tie.Need-returns
 returns c =
     let k = c .before in
-    let a = k .before .before .before .before .before .before .before .before .before .args in
+    let a = k .before .before .before .before .before .before .before .before .before .before .args in
     refused-write (writeRefusal (a .edition) (a .s .now) (a .at) (a .r)) (a .s .now) (a .at) (recordBytes (a .edition) (a .r)) (k .refusal-with .result) (number k) (c .if1 .taken)
 
 encode-requires : tie.Need-encode-requires
 encode-requires c κs =
     let k = c .before .before in
-    let a = k .before .before .before .before .before .before .before .before .before .args in
+    let a = k .before .before .before .before .before .before .before .before .before .before .args in
     write-room (a .edition) (a .s .now) (a .at) (a .r) (sym (number k) ∙ c .before .if1 .left) .room
 
 same-length : tie.Need-same-length
@@ -69,7 +73,7 @@ returns-2 : tie.Need-returns-2
 returns-2 c =
     let w = c .before .before in
     let k = w .before .before .before in
-    let a = k .before .before .before .before .before .before .before .before .before .args in
+    let a = k .before .before .before .before .before .before .before .before .before .before .args in
     done-write (writeRefusal (a .edition) (a .s .now) (a .at) (a .r)) (a .s .now) (a .at) (recordBytes (a .edition) (a .r)) (k .refusal-with .result) (w .encode .last .0)
     (number k) (w .before .before .if1 .left) (w .encode .ensures)
 
@@ -84,6 +88,7 @@ write-record-spec =
     is-edition-requires
     first-requires-2
     has-room-requires
+    has-cap-room-requires
     in-edition-requires
     refusal-with-requires
     returns

@@ -24,8 +24,8 @@ half-at-requires c κs =
     let a = s .args in
     let x = s .pre in
     let long = length-take-le (a .n) (a .queue .now) (x .fits) in
-    let t = taken-low (asked (a .p)) (a .k) (a .split) (take (a .n) (a .queue .now)) (a .n) long (x .shallow) (x .splits) (a .low) (a .high) (x .low-is) (x .high-is) (x .some) (sym (c .before .before .is-low-first .ensures) ∙ c .before .if1 .taken) in
-    record { shallow = x .shallow; fits = x .fits; i-le = omega (arith, t .here); splits = x .splits }
+    let t = taken-low (asked (a .p)) (a .k) (a .c .split) (take (a .n) (a .queue .now)) (a .n) long (x .shallow) (x .splits) (a .low) (a .high) (x .low-is) (x .high-is) (x .some) (sym (c .before .before .is-low-first .ensures) ∙ c .before .if1 .taken) in
+    record { halving = x .halving; shallow = x .shallow; fits = x .fits; i-le = omega (arith, t .here); splits = x .splits }
 
 add-half-at-2 : tie.Need-add-half-at-2
 add-half-at-2 c =
@@ -38,8 +38,8 @@ half-at-requires-2 c κs =
     let a = s .args in
     let x = s .pre in
     let long = length-take-le (a .n) (a .queue .now) (x .fits) in
-    let t = taken-high (asked (a .p)) (a .k) (a .split) (take (a .n) (a .queue .now)) (a .n) long (x .shallow) (x .splits) (a .low) (a .high) (x .low-is) (x .high-is) (x .some) (sym (c .before .before .is-low-first .ensures) ∙ c .before .if1 .left) in
-    record { shallow = x .shallow; fits = x .fits; i-le = omega (arith, t .here); splits = x .splits }
+    let t = taken-high (asked (a .p)) (a .k) (a .c .split) (take (a .n) (a .queue .now)) (a .n) long (x .shallow) (x .splits) (a .low) (a .high) (x .low-is) (x .high-is) (x .some) (sym (c .before .before .is-low-first .ensures) ∙ c .before .if1 .left) in
+    record { halving = x .halving; shallow = x .shallow; fits = x .fits; i-le = omega (arith, t .here); splits = x .splits }
 
 returns : tie.Need-returns
 returns c =
@@ -47,10 +47,10 @@ returns c =
     let a = s .args in
     let x = s .pre in
     let long = length-take-le (a .n) (a .queue .now) (x .fits) in
-    let t = taken-low (asked (a .p)) (a .k) (a .split) (take (a .n) (a .queue .now)) (a .n) long (x .shallow) (x .splits) (a .low) (a .high) (x .low-is) (x .high-is) (x .some) (sym (c .before .before .before .is-low-first .ensures) ∙ c .before .before .if1 .taken) in
+    let t = taken-low (asked (a .p)) (a .k) (a .c .split) (take (a .n) (a .queue .now)) (a .n) long (x .shallow) (x .splits) (a .low) (a .high) (x .low-is) (x .high-is) (x .some) (sym (c .before .before .before .is-low-first .ensures) ∙ c .before .before .if1 .taken) in
     record {
       halves = rw (x .low-is .box (t .here), c .half-at .ensures .0) (t .halves);
-      of-level = of-level (asked (a .p)) (a .k) (a .split) (take (a .n) (a .queue .now)) (a .n) long (x .shallow) (x .splits) false (a .low) (x .low-is) (t .here);
+      of-level = of-level (asked (a .p)) (a .k) (a .c .split) (take (a .n) (a .queue .now)) (a .n) long (x .shallow) (x .splits) false (a .low) (x .low-is) (t .here);
       one-more = omega (arith, c .half-at .ensures .0);
       low-is = c .half-at .ensures .1;
       high-is = x .high-is;
@@ -62,10 +62,10 @@ returns-2 c =
     let a = s .args in
     let x = s .pre in
     let long = length-take-le (a .n) (a .queue .now) (x .fits) in
-    let t = taken-high (asked (a .p)) (a .k) (a .split) (take (a .n) (a .queue .now)) (a .n) long (x .shallow) (x .splits) (a .low) (a .high) (x .low-is) (x .high-is) (x .some) (sym (c .before .before .before .is-low-first .ensures) ∙ c .before .before .if1 .left) in
+    let t = taken-high (asked (a .p)) (a .k) (a .c .split) (take (a .n) (a .queue .now)) (a .n) long (x .shallow) (x .splits) (a .low) (a .high) (x .low-is) (x .high-is) (x .some) (sym (c .before .before .before .is-low-first .ensures) ∙ c .before .before .if1 .left) in
     record {
       halves = rw (x .high-is .box (t .here), c .half-at2 .ensures .0) (t .halves);
-      of-level = of-level (asked (a .p)) (a .k) (a .split) (take (a .n) (a .queue .now)) (a .n) long (x .shallow) (x .splits) true (a .high) (x .high-is) (t .here);
+      of-level = of-level (asked (a .p)) (a .k) (a .c .split) (take (a .n) (a .queue .now)) (a .n) long (x .shallow) (x .splits) true (a .high) (x .high-is) (t .here);
       one-more = omega (arith, c .half-at2 .ensures .0);
       low-is = x .low-is;
       high-is = c .half-at2 .ensures .1;

@@ -11,61 +11,72 @@ use crate::bodies::{Bodies, Body, Triangle, MOST_TRIANGLES, NUMBERS, QUERIES};
 use crate::edition::{Edition, Range};
 use crate::record::Point;
 use crate::refusals::{check_words, Refusal, MOST_BUDGET, MOST_SEPARATION, MOST_TOLERANCE};
+use std::ops::ControlFlow;
 
 const BODY: u32 = 21;
 const SPACE: u32 = 14;
 
+/// A walk goes on, or it ends at a time of 0.
+type Goes = ControlFlow<()>;
+
 /// Which pairs of triangles a walk asks; their queries have the same hand's search.
 pub trait Way: ByHand {
-    fn pairs(walk: &mut Walk, a: &Body, b: &Body);
+    fn pairs(walk: &mut Walk, a: &Body, b: &Body) -> Goes;
 }
 
 /// Every pair.
 impl Way for Plain {
-    fn pairs(walk: &mut Walk, a: &Body, b: &Body) {
+    fn pairs(walk: &mut Walk, a: &Body, b: &Body) -> Goes {
         for m in 0..a.count {
             let of_a = triangle(a, m);
             for n in 0..b.count {
-                walk.pair::<Plain>([m as u32, n as u32], &of_a, &triangle(b, n));
+                walk.pair::<Plain>([m as u32, n as u32], &of_a, &triangle(b, n))?;
             }
         }
+        Goes::Continue(())
     }
 }
 
 /// The queries of a pair that is apart are counted, and not asked; what B reaches is worked out on the way.
 impl Way for Same {
-    fn pairs(walk: &mut Walk, a: &Body, b: &Body) {
+    fn pairs(walk: &mut Walk, a: &Body, b: &Body) -> Goes {
         for m in 0..a.count {
             let of_a = triangle(a, m);
             let around = Reach::around(&of_a, &walk.terms.separations);
             let mut apart = 0;
             for n in 0..b.count {
                 if around.misses(&triangle(b, n)) {
-                    apart += u64::from(QUERIES);
+                    apart += 1;
                 } else {
-                    walk.pair::<Same>([m as u32, n as u32], &of_a, &triangle(b, n));
+                    walk.pass_over(apart);
+                    apart = 0;
+                    walk.pair::<Same>([m as u32, n as u32], &of_a, &triangle(b, n))?;
                 }
             }
-            walk.sum += apart;
+            walk.pass_over(apart);
         }
+        Goes::Continue(())
     }
 }
 
 /// The same with what B reaches kept, so that a whole row is compared at once.
 impl Way for Fast {
-    fn pairs(walk: &mut Walk, a: &Body, b: &Body) {
+    fn pairs(walk: &mut Walk, a: &Body, b: &Body) -> Goes {
         let reaches = Reaches::of(b);
         for m in 0..a.count {
             let of_a = triangle(a, m);
             let near = reaches.near(&Reach::around(&of_a, &walk.terms.separations));
-            let pairs = near.iter().filter(|near| **near).count();
-            walk.sum += u64::from(QUERIES) * (b.count - pairs) as u64;
-            if pairs > 0 {
+            let mut behind = 0;
+            if near.iter().fold(false, |any, near| any | near) {
                 for n in (0..b.count).filter(|n| near[*n]) {
-                    walk.pair::<Fast>([m as u32, n as u32], &of_a, &triangle(b, n));
+                    walk.pass_over(n - behind);
+                    behind = n + 1;
+                    walk.pair::<Fast>([m as u32, n as u32], &of_a, &triangle(b, n))?;
                 }
             }
+            walk.pass_over(b.count - behind);
         }
+        Goes::Continue(())
     }
 }
 
@@ -79,9 +90,10 @@ pub fn bodies<W: Way>(bodies: &Bodies, queue: &mut [u64], told: &mut [u32]) -> u
     }
     let Some(told) = told.first_chunk_mut::<8>() else { return SPACE };
     let Bodies { a, b, separations, tolerance, budget, .. } = *bodies;
-    let terms = Terms { deepest: range.deepest, separations, tolerance, budget };
+    // No time so far is no cap.
+    let terms = Terms { deepest: range.deepest, separations, tolerance, budget, cap: 0 };
     let mut walk = Walk { terms, queue, sum: 0, least: [CLEAR, u32::MAX, 0, 0, 0, 0] };
-    W::pairs(&mut walk, &a, &b);
+    let _ = W::pairs(&mut walk, &a, &b);
     *told = walk.told();
     walk.queue.fill(0);
     0
@@ -148,6 +160,7 @@ impl Points for FourCorners {
 }
 
 pub struct Walk<'a> {
+    /// The cap is the least time so far.
     terms: Terms,
     queue: &'a mut [u64],
     sum: u64,
@@ -156,22 +169,29 @@ pub struct Walk<'a> {
 }
 
 impl Walk<'_> {
+    /// So many triangles that are apart: level 0 decides each of their queries.
+    #[inline(always)]
+    fn pass_over(&mut self, triangles: usize) {
+        self.sum += u64::from(QUERIES) * triangles as u64;
+    }
+
     #[inline(never)]
-    fn pair<W: Way>(&mut self, at: [u32; 2], a: &Triangle, b: &Triangle) {
+    fn pair<W: Way>(&mut self, at: [u32; 2], a: &Triangle, b: &Triangle) -> Goes {
         let corner = |triangle: &Triangle, n: usize| [triangle[0][n], triangle[1][n]];
         let [a, b] = [a, b].map(|triangle| [0, 1, 2].map(|n| corner(triangle, n)));
         for (corner, query) in a.into_iter().zip(1..) {
-            self.ask::<true, W>(at, query, [corner, b[0], b[1], b[2]]);
+            self.ask::<true, W>(at, query, [corner, b[0], b[1], b[2]])?;
         }
         for (corner, query) in b.into_iter().zip(4..) {
-            self.ask::<true, W>(at, query, [corner, a[0], a[1], a[2]]);
+            self.ask::<true, W>(at, query, [corner, a[0], a[1], a[2]])?;
         }
         for m in 0..3 {
             for n in 0..3 {
                 let points = [a[m], a[(m + 1) % 3], b[n], b[(n + 1) % 3]];
-                self.ask::<false, W>(at, (7 + 3 * m + n) as u32, points);
+                self.ask::<false, W>(at, (7 + 3 * m + n) as u32, points)?;
             }
         }
+        Goes::Continue(())
     }
 
     #[inline(always)]
@@ -180,17 +200,22 @@ impl Walk<'_> {
         at: [u32; 2],
         query: u32,
         points: FourCorners,
-    ) {
+    ) -> Goes {
         if W::CUBE_FIRST && cube::misses(VERTEX_FACE, &self.terms.separations, &points) {
             self.sum += 1;
-            return;
+            return Goes::Continue(());
         }
         let asked = Asked::new(VERTEX_FACE, &self.terms, &points);
         let [word, t, _, _, excess, count] = W::search(&asked, self.queue);
         self.sum += u64::from(count);
         if word != CLEAR && (self.least[0] == CLEAR || t < self.least[1]) {
             self.least = [word, t, at[0], at[1], query, excess];
+            self.terms.cap = t;
+            if t == 0 {
+                return Goes::Break(());
+            }
         }
+        Goes::Continue(())
     }
 
     fn told(&self) -> [u32; 8] {

@@ -75,8 +75,10 @@ impl Search<'_> {
     }
 
     fn halves_inside(&self, shift: u32, boxes: &[u64]) -> usize {
-        let high = |word: &&u64| self.is_inside(*word + (*word & INDEX << shift) + (1 << shift));
-        boxes.len() + boxes.iter().filter(high).count()
+        let end = self.asked.end(self.slab.depths[0]);
+        let high = |word: &u64| *word + (*word & INDEX << shift) + (1 << shift);
+        let highs = boxes.iter().map(high);
+        boxes.len() + highs.filter(|high| *high < end && self.is_inside(*high)).count()
     }
 
     /// Of vertex-face only a high half can be outside; the boxes of a row are so from one on.
@@ -85,13 +87,17 @@ impl Search<'_> {
         !self.asked.is_vertex_face || is_inside(word, &self.slab.depths)
     }
 
-    /// In t: of the boxes of one t index first every low half, then every high one.
+    /// In t: of the boxes of one t index first every low half, then every high one, unless these are beyond the cap.
     #[inline(never)]
     fn split_t(&mut self, boxes: &[u64], next: &mut [u64]) -> Goes<()> {
+        let end = self.asked.end(self.slab.depths[0]);
         for group in boxes.chunk_by(|a, b| a >> 40 == b >> 40) {
             let low = group[0] & INDEX << 40;
+            let high = low + (1 << 40);
             self.half(group, low, next)?;
-            self.half(group, low + (1 << 40), next)?;
+            if group[0] + high < end {
+                self.half(group, high, next)?;
+            }
         }
         Ok(())
     }

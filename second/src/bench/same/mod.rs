@@ -60,7 +60,7 @@ impl Search<'_> {
         }
     }
 
-    /// Only a high half of vertex-face can be outside, and not of a split in t.
+    /// Only a high half can go: of a split in t one beyond the cap, of another split one of vertex-face outside.
     #[inline(always)]
     fn split(&self, shift: u32, boxes: &[u64], next: &mut [u64]) -> Goes<usize> {
         match (shift, self.asked.is_vertex_face) {
@@ -81,6 +81,11 @@ impl Search<'_> {
     ) -> Goes<usize> {
         let low_of = |word: u64| word + (word & INDEX << SHIFT);
         let high_of = |word: u64| low_of(word) + (1 << SHIFT);
+        let end = self.asked.end(self.depths[0]);
+        let stays = |high: u64| match SHIFT {
+            40 => high < end,
+            _ => !IS_BOUNDED || is_inside(high, &self.depths),
+        };
         let (mut lows, mut made) = (0, 0);
         let mut low = low_of(boxes[0]);
         for word in boxes {
@@ -92,7 +97,7 @@ impl Search<'_> {
                 // Past the last, greater than the word of any box.
                 low = boxes.get(lows).map_or(u64::MAX, |word| low_of(*word));
             }
-            if !IS_BOUNDED || is_inside(high, &self.depths) {
+            if stays(high) {
                 *next.get_mut(made).ok_or(ROOM)? = high;
                 made += 1;
             }

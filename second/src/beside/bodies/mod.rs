@@ -7,7 +7,7 @@ use super::expected::SPACE;
 use super::judged::{differences, Must};
 use super::report::Again;
 use super::Library;
-use crate::bodies::{answer, told, Bodies, BodiesAnswer, Body, QUERIES};
+use crate::bodies::{answer, told, Bodies, BodiesAnswer, Body, Least, QUERIES};
 use crate::gen::bodies::{flavours, generate, words::words, Drawn};
 use crate::refusals::Refusal;
 use crate::rng::Rng;
@@ -114,7 +114,7 @@ impl<'a> Caller<'a> {
         self.tally.call(self.drawn.edition);
         match must {
             Err(number) => self.tally.refused(number),
-            Ok(_) => self.tally.answered(self.queries(), answer),
+            Ok(_) => self.tally.answered(self.asked(answer), answer),
         }
         let edition = self.drawn.edition;
         let call = format!("taperhive_bodies, edition {edition}, {words} words, told of {lent}");
@@ -123,10 +123,16 @@ impl<'a> Caller<'a> {
         self.positions_unchanged(&call);
     }
 
-    /// Of a walk through both bodies.
-    fn queries(&self) -> u64 {
-        let [a, b] = self.drawn.counts.map(|count| count as u64);
-        a * b * u64::from(QUERIES)
+    /// Queries of a walk that comes to this answer: up to a time of 0, else all.
+    fn asked(&self, answer: &BodiesAnswer) -> u64 {
+        let [of_a, of_b] = self.drawn.counts.map(|count| count as u64);
+        let queries = |pairs: u64| pairs * u64::from(QUERIES);
+        match *answer {
+            BodiesAnswer::Least(Least { t: 0, a, b, query, .. }) => {
+                queries(u64::from(a) * of_b + u64::from(b)) + u64::from(query)
+            }
+            _ => queries(of_a * of_b),
+        }
     }
 
     fn positions_unchanged(&mut self, call: &str) {

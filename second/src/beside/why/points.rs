@@ -1,4 +1,4 @@
-//! Points worth asking about: anywhere, at the boundaries of boxes, around the answered time, at 1, and outside the domain.
+//! Points worth asking about: anywhere, at the boundaries of boxes, around the answered time and the cap, at 1, and outside the domain.
 
 use crate::record::VERTEX_FACE;
 use crate::rng::Rng;
@@ -37,6 +37,9 @@ impl<'a> Points<'a> {
 
     /// A point of any sort.
     pub fn draw(&self, rng: &mut Rng) -> Parts {
+        if self.searched.record.cap != 0 && rng.one_in(4) {
+            return self.around_the_cap(rng);
+        }
         match rng.below(16) {
             0..=3 => any(rng),
             4 => self.before(rng),
@@ -47,11 +50,20 @@ impl<'a> Points<'a> {
         }
     }
 
-    /// Anywhere before the answered time, where there is such a moment.
+    /// Anywhere before the answered time, where there is such a moment, else up to the cap.
     fn before(&self, rng: &mut Rng) -> Parts {
         let [_, u, v] = anywhere(rng);
-        let last = self.searched.answer.corner().map_or(ONE, |corner| corner.t.saturating_sub(1));
+        let whole = if self.searched.record.cap == 0 { ONE } else { self.searched.record.cap };
+        let last = self.searched.answer.corner().map_or(whole, |corner| corner.t.saturating_sub(1));
         [up_to(rng, last), u, v]
+    }
+
+    /// The cap, one part before it and one behind it, or anywhere behind it.
+    fn around_the_cap(&self, rng: &mut Rng) -> Parts {
+        let cap = self.searched.record.cap;
+        let [_, u, v] = anywhere(rng);
+        let behind = cap + up_to(rng, ONE - cap);
+        [rng.pick(&[cap - 1, cap, cap, cap + 1, behind]), u, v]
     }
 
     /// The answered time, one part before it and one behind it, at the recorded corner and elsewhere.

@@ -71,11 +71,21 @@ fn place(rng: &mut Dice, triangle: &Triangle, eighths: i32) -> Point {
 
 /// Some triangle of A touches one of B at a moment, or misses it by the separation and one more.
 pub fn touching(rng: &mut Dice) -> Drawn {
+    touching_at(rng, &[0, 0, 1, 4, 5, 8, 8])
+}
+
+/// The same at the start, so that the walk ends there, mostly inside a pair.
+pub fn at_the_start(rng: &mut Dice) -> Drawn {
+    touching_at(rng, &[0])
+}
+
+/// The same at one of some moments in eighths.
+fn touching_at(rng: &mut Dice, moments: &[i32]) -> Drawn {
     let reach = size(rng);
     let counts = [count(rng).min(6), count(rng).min(6)];
     let pair: Pair = counts.map(|count| (0..count).map(|_| any(rng, reach)).collect());
     let (one, other) = (pair[0][rng.below(counts[0])], pair[1][rng.below(counts[1])]);
-    let eighths = rng.pick(&[0, 0, 1, 4, 5, 8, 8]);
+    let eighths = rng.pick(moments);
     let (from, to) = (place(rng, &one, eighths), place(rng, &other, eighths));
     let mut way = [0, 1, 2].map(|axis| (to[axis] - from[axis]) / 32);
     let mut drawn = finish(rng, reach, pair);

@@ -32,12 +32,14 @@ type Pair = [Vec<Triangle>; 2];
 type Make = fn(&mut Dice) -> Drawn;
 
 /// Every flavour's name in the shorter range and in the longer, and what makes its bodies.
-const FLAVOURS: [([&str; 2], Make); 16] = [
+const FLAVOURS: [([&str; 2], Make); 18] = [
     (["bodies-near", "bodies-near3"], plates::near),
     (["bodies-far", "bodies-far3"], plates::far),
     (["bodies-ties", "bodies-ties3"], plates::ties),
+    (["bodies-falling", "bodies-falling3"], plates::falling),
     (["bodies-clumps", "bodies-clumps3"], clumps::near),
     (["bodies-touching", "bodies-touching3"], clumps::touching),
+    (["bodies-start", "bodies-start3"], clumps::at_the_start),
     (["bodies-together", "bodies-together3"], clumps::together),
     (["bodies-degenerate", "bodies-degenerate3"], clumps::degenerate),
     (["bodies-extreme", "bodies-extreme3"], clumps::extreme),

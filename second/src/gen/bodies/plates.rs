@@ -106,6 +106,26 @@ pub fn ties(rng: &mut Dice) -> Drawn {
     drawn
 }
 
+/// A plate that is level, or tilted a little or more, comes down through a level one and is apart from it at the start: the least time
+/// falls from pair to pair, or is found again in each.
+pub fn falling(rng: &mut Dice) -> Drawn {
+    let step = size(rng);
+    let (cells, counts) = (1 + rng.below(4), [count(rng), count(rng)]);
+    let tilt = rng.pick(&[0, 1, step / 8, step / 2]);
+    let mut above = Plate::level(cells, step, [2 * step, -2 * step]);
+    above.tilts = [[tilt; 2]; 2];
+    let level = Plate::level(cells, step, [0; 2]);
+    let mut pair = [above.triangles(rng, counts[0]), level.triangles(rng, counts[1])];
+    if rng.one_in(2) {
+        pair[0].reverse();
+    }
+    let pair = turned(rng, pair);
+    let drawn = cheaper(rng, step, pair);
+    // With a tolerance of the whole way the first box would answer.
+    let most = rng.range().least_tolerance.max(step as u32);
+    Drawn { tolerance: drawn.tolerance.min(most), ..drawn }
+}
+
 /// As many triangles as there may be: most pairs far apart, the plates' first or last cells near.
 pub fn whole(rng: &mut Dice) -> Drawn {
     let step = rng.pick(&[1_000, 8_000, 20_000]);

@@ -1,19 +1,21 @@
 //! Two bodies by the stub, right or with one fault.
 
 mod refused;
+mod walked;
 
 use super::ranges::ranged;
 use refused::refused;
-use second::bodies::{told, walk, Asked, Bodies, BodiesAnswer, Body, Least, NUMBERS};
+use second::bodies::{told, Asked, Bodies, BodiesAnswer, Body, Least, NUMBERS};
 use second::edition::Range;
 use second::record::Record;
 use second::search::{search, Answer};
 use std::slice::{from_raw_parts, from_raw_parts_mut};
+use walked::walked;
 
 faults! {
     None
     EdgesExchanged EdgesOfBFirst CornersOfBFirst PairsByB LaterOfEqualNamed LastOfAForgotten LastOfBForgotten
-    EndsAtTheFirstTime EndsAtTimeZero SumOfTheHolder SumCutTo32Bits ExcessOfTheLast WordOfTheLast
+    EndsAtTheFirstTime GoesOnAfterTimeZero SumOfTheHolder SumCutTo32Bits ExcessOfTheLast WordOfTheLast
     TrianglesFromOne QueriesFromZero TimeToldOfClear
     QueueLeftDirty QueueClearedThoughRefused WordBeyondQueue WordBeyondTold
     BodyAfterQueries LengthsUnchecked LengthsWrap LongerTaken CountCutTo32Bits Most255 Least257 EmptyTaken
@@ -21,6 +23,8 @@ faults! {
     SeparationOfX SpaceBeforeRefusal SpaceOfSeven ToldWrittenOnRefusal ToldWrittenThoughShort
     BodyBeforeEdition QueriesBeforeEdition EditionUnchecked EditionOneRefused EditionThreeRefused
     EditionZeroTaken EditionFourTaken EditionCutTo7Bits TimeNotDoubled
+    WalkUncapped CapOfThePairBefore CapOfTheFirstTime CapAPartLess CapAPartMore EndsBehindThePair EndsWithTheTriangle
+    TimeZeroNotCounted EqualTimeNotCounted QueueLeftAtTimeZero
 }
 
 /// Fault N over the second program's search, or over one that finds every query clear by a million boxes: a few thousand queries
@@ -88,7 +92,12 @@ fn leave(fault: Fault, queue: &mut [u64], told: &mut [u32]) {
         Fault::WordBeyondTold => unsafe { *told.as_mut_ptr().add(8) = 0 },
         _ => {}
     }
-    let left = usize::from(fault == Fault::QueueLeftDirty && queue.len() % 2 == 1);
+    let left = match fault {
+        Fault::QueueLeftDirty => queue.len() % 2,
+        // A time, and it is 0.
+        Fault::QueueLeftAtTimeZero => usize::from(told[0] != 2 && told[1] == 0),
+        _ => 0,
+    };
     let clean = queue.len() - left;
     queue[..clean].fill(0);
 }
@@ -130,20 +139,7 @@ fn sound<'a>(fault: Fault, bodies: &Bodies<'a>) -> Bodies<'a> {
 fn answered(fault: Fault, bodies: &Bodies, ask: impl Fn(&Record) -> Answer) -> [u32; 8] {
     let mut queries: Vec<Asked> = bodies.queries().collect();
     reorder(fault, &mut queries);
-    let mut answers: Vec<Answer> = queries.iter().map(|asked| ask(&asked.record)).collect();
-    if fault == Fault::LaterOfEqualNamed {
-        queries.reverse();
-        answers.reverse();
-    }
-    let time = |answer: &Answer| time_and_excess(answer).map(|(t, _)| t);
-    let ends = match fault {
-        Fault::EndsAtTheFirstTime => answers.iter().position(|answer| time(answer).is_some()),
-        Fault::EndsAtTimeZero => answers.iter().position(|answer| time(answer) == Some(0)),
-        _ => None,
-    };
-    let most = ends.map_or(answers.len(), |place| place + 1);
-    let mut given = answers.iter();
-    let walked = walk(queries.into_iter().take(most), |_| *given.next().expect("an answer each"));
+    let (walked, answers) = walked(fault, &queries, ask);
     let mut numbers = told(&walked).expect("an answer");
     spoil(fault, bodies.edition, &mut numbers, &walked, &answers);
     numbers

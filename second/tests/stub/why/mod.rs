@@ -25,6 +25,8 @@ faults! {
     OutsideClearsQueue SpaceClearsQueue NotRuledOutLeavesQueue AnswerLeavesQueue LastWordLeft WordBeyondQueue
     TenthNumberWritten ToldChangedByOutside ToldChangedByNotRuledOut ToldChangedThoughShort
     EditionThreeRefused OddPartsOutside HalvesAskedForOutside AnsweredTimeNotDoubled PartsNotHalved
+    CapIgnored BeyondCapInside CapItselfOutside CapZeroOutside OneBeyondCapInside EqualToCapDropped NotRuledOutBeforeCap
+    SpaceBeforeCap CapBeforeQueue
 }
 
 #[rustfmt::skip]
@@ -123,6 +125,7 @@ fn query<const R: usize>(fault: Fault, file: &[u8], n: usize) -> Result<Query, R
     match fault {
         Fault::FlagIgnored => record.flags &= 0xFE,
         Fault::SeparationOfX => record.separations = [record.separations[0]; 3],
+        Fault::CapIgnored => record.cap = 0,
         _ => {}
     }
     Ok(Query { record, range: ranged::<R>(range), longer: range == Range::LONGER })
@@ -133,7 +136,9 @@ fn answer(fault: Fault, query: &Query, asked: &Asked) -> Result<[u32; TOLD], Ref
     let searched = || search(fault, query, asked.words);
     let of_record = || check_record(&query.record, query.range);
     let queue = || check_words(asked.words);
-    let outside = || refused(is_outside(fault, query, asked.point), Refusal::Outside);
+    let off = || refused(is_outside(fault, query, asked.point), Refusal::Outside);
+    let beyond = || refused(is_beyond_cap(fault, query, asked.point[0]), Refusal::Outside);
+    let outside = || off().and_then(|()| beyond());
     let space = || refused(is_short(fault, asked.lent), Refusal::Space);
     let late = || refused(is_late(fault, query, &*searched()?, asked.point), Refusal::NotRuledOut);
     match fault {
@@ -142,6 +147,10 @@ fn answer(fault: Fault, query: &Query, asked: &Asked) -> Result<[u32; TOLD], Ref
         Fault::OutsideBeforeRecord => outside()?,
         Fault::QueueBeforeRecord => queue()?,
         Fault::SpaceBeforeOutside => first(&[&of_record, &queue, &space])?,
+        // Only the cap is looked at late, or early.
+        Fault::NotRuledOutBeforeCap => first(&[&of_record, &queue, &off, &space, &late])?,
+        Fault::SpaceBeforeCap => first(&[&of_record, &queue, &off, &space])?,
+        Fault::CapBeforeQueue => first(&[&of_record, &beyond])?,
         Fault::SpaceBeforeRecord => space()?,
         Fault::SpaceAfterNotRuledOut => first(&[&of_record, &queue, &outside, &late])?,
         _ => {}
@@ -172,6 +181,9 @@ fn search(fault: Fault, query: &Query, words: usize) -> Result<Rc<Searched>, Ref
     match fault {
         Fault::MoreBudget => kept(Record { budget, ..record }, range, words),
         Fault::MoreRoom => kept(record, range, (4 * words).min(MOST_WORDS)),
+        Fault::EqualToCapDropped if record.cap > 1 => {
+            kept(Record { cap: record.cap - 1, ..record }, range, words)
+        }
         _ => kept(record, range, words),
     }
 }
@@ -221,6 +233,17 @@ fn is_outside(fault: Fault, query: &Query, point: Parts) -> bool {
         _ => face && sum > u64::from(ONE),
     };
     t.max(u).max(v) > most || off_the_face
+}
+
+fn is_beyond_cap(fault: Fault, query: &Query, t: u32) -> bool {
+    let cap = query.record.cap;
+    match fault {
+        Fault::BeyondCapInside => false,
+        Fault::CapItselfOutside => cap != 0 && t >= cap,
+        Fault::OneBeyondCapInside => cap != 0 && t > cap + 1,
+        Fault::CapZeroOutside => t > cap,
+        _ => cap != 0 && t > cap,
+    }
 }
 
 fn is_late(fault: Fault, query: &Query, searched: &Searched, point: Parts) -> bool {

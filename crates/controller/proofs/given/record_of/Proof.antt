@@ -26,7 +26,7 @@ returns c =
         dz = omega (arith, k .fits .dz);
         tolerance = omega (arith, k .fits .tolerance);
         budget = omega (arith, k .fits .budget);
-        spare = omega (arith, k .fits .cap);
+        cap = omega (arith, k .fits .cap);
         count = ap length (c .first-24 .ensures .0) ∙ length-take-le 24 (k .args .numbers .now) (k .pre);
         points = c .first-24 .ensures .1;
         narrow = λ e. let z : _≡_ {A = ℕ} 0 1 = cc in absurd (omega arith);

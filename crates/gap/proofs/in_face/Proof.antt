@@ -1,11 +1,10 @@
--- `gap::inside` meets its contract.
+-- `gap::in_face` meets its contract.
 use borrow.Author.Needs.{needs}
 use native.Mathlib.Omega.{arith}
 use lib.Dec.{lit≤}
-use Rattle.rules.specs.Search.{inside}
 use Rattle.gap.specs.Grid.{in-parts-of}
-use Rattle.gap.proofs.inside.Statement.{statement}
-use Rattle.gap.proofs.inside.Tie as tie
+use Rattle.gap.proofs.in_face.Statement.{statement}
+use Rattle.gap.proofs.in_face.Tie as tie
 
 low-requires : tie.Need-low-requires
 low-requires c κs = search needs
@@ -20,12 +19,10 @@ add-result c =
     omega (arith, w .u0, w .v0)
 
 returns : tie.Need-returns
-unfolding inside
 returns c = rw (c .before .low .ensures, c .low2 .ensures, c .before .before .if1 .taken)
 
 returns-2 : tie.Need-returns-2
-unfolding inside
 returns-2 c = rw (c .if1 .left)
 
-pub inside-spec : {M : Type 1} → statement M
-inside-spec = tie.close (tie.spec low-requires low-requires-2 add-result returns returns-2)
+pub in-face-spec : {M : Type 1} → statement M
+in-face-spec = tie.close (tie.spec low-requires low-requires-2 add-result returns returns-2)
