@@ -1,7 +1,7 @@
--- What the old rules gave, the search of a record with three equal separations and cap 0 gives: OldRules' law. Assumes nothing.
+-- What the old rules gave, the search of a record with cap 0 gives, and with one separation that of three equal ones: OldRules' laws. Assumes nothing.
 use Prim.Native.Nat.{ℕ, zero, suc, _+_, _*_, _-_, _≤_, max}
 use mathlib.Core.Path.{_≡_, refl, ap, _∙_}
-use mathlib.Core.Bool.{Bool, true, false, not, cond, _&&_, _||_}
+use mathlib.Core.Bool.{Bool, true, false, not, cond, _&&_, _||_, and-true}
 use mathlib.Core.List.{List, [], _∷_, map}
 use native.Mathlib.Nat.{le-trans}
 use borrow.Author.Tests.{le-leb}
@@ -20,7 +20,7 @@ use Rattle.rules.specs.Gap.{separationOn}
 use Rattle.rules.specs.Refusals.{first, searchRefusal}
 use Rattle.rules.specs.Search.{Query, query, Box, Depths, low, unit, least, greatest, onAll, largest, width, roundUp, excess, corner, near, survives, Checked, keep, firstSurvivor, full, oneBox, check, those, merge, split, deeper, lowHalf, highHalf, inside, halves, ifRoom, afterLevel, levels, run, origin, unless, search}
 use Rattle.rules.specs.QueryFile.{word, recordBy, recordAt}
-use Rattle.promise.specs.OldRules.{oldSurvives, oldExcess, oldCorner, oldNear, oldOneBox, oldCheck, oldInside, oldHalves, oldAfterLevel, oldLevels, oldRun, oldRefusal, oldSearch, Three-equal, Edition-1-as-before}
+use Rattle.promise.specs.OldRules.{oldSurvives, oldExcess, oldCorner, oldNear, oldOneBox, oldCheck, onFace, allHalves, oldAfterLevel, oldLevels, oldRun, uncappedRefusal, uncappedSearch, oldRefusal, oldSearch, Cap-0-as-before, Three-equal, Edition-1-as-before}
 use Rattle.kernel.specs.Ranges.{InGrid, editions-deep}
 use Rattle.promise.proofs.Lists.{Every, every-weaken, those-every, map-every}
 use Rattle.promise.proofs.Split.{Shallow, split-open, deeper-shallow}
@@ -34,6 +34,66 @@ largest-less f m = ap (max (f X - m)) (less (f Y) (f Z)) ∙ less (f X) (max (f 
   where
     less : (x y : ℕ) → max (x - m) (y - m) ≡ max x y - m
     less x y = omega arith
+
+-- ---- the whole step: no half is beyond it
+module _ (q : Query) (deep : q .deepest ≤ 20) (whole : q .last ≡ parts) where
+  inside-old : (k : Depths) (b : Box) → k .t ≤ 20 → InGrid k b → inside q k b ≡ onFace q k b
+  unfolding inside onFace
+  inside-old k b h g =
+      ap (λ (x : Bool). x && (not (q .isFace) || leb (low (k .u) (b .u) + low (k .v) (b .v)) parts))
+      (ap (λ (n : ℕ). leb (low (k .t) (b .t)) n) whole ∙ le-leb (low (k .t) (b .t)) parts (low-parts (k .t) (b .t) h (g .t)))
+
+  those-old : (k : Depths) (l : List Box) → k .t ≤ 20 → Every (InGrid k) l → those (inside q k) l ≡ those (onFace q k) l
+  unfolding those
+  those-old k [] h g = refl
+  those-old k (b ∷ bs) h g = λ i. cond (inside-old k b h (g .0) i) (b ∷ those-old k bs h (g .1) i) (those-old k bs h (g .1) i)
+
+  halves-old : (p : Parameter) (k : Depths) (l : List Box) → deeper p k .t ≤ 20 → Every (InGrid k) l → halves q (deeper p k) p l ≡ allHalves q (deeper p k) p l
+  unfolding halves allHalves
+  halves-old p k l h g =
+      λ i. merge
+      (those-old (deeper p k) (map (lowHalf p) l) h (map-every (InGrid k) (InGrid (deeper p k)) (lowHalf p) (λ b. low-grid p k b) l g) i)
+      (those-old (deeper p k) (map (highHalf p) l) h (map-every (InGrid k) (InGrid (deeper p k)) (highHalf p) (λ b. high-grid p k b) l g) i)
+
+  -- l are the survivors; `next`: the levels after this one
+  after-old : (m : ℕ) (k : Depths) (c : Corner) (n boxes : ℕ) (l : List Box) (r : Checked) → Outcome q k c n boxes l r → Shallow q k → Every (InGrid k) l
+      → ((k' : Depths) (new : List Box) (c' : Corner) (n' : ℕ) → Shallow q k' → Every (InGrid k') new → levels m q k' new c' n' ≡ oldLevels q (check q) m k' new c' n')
+      → afterLevel q k (levels m q) r ≡ oldAfterLevel q k (oldLevels q (check q) m) r
+  unfolding afterLevel oldAfterLevel
+  after-old m k c n boxes l r (early i h f) s g next = refl
+  after-old m k c n boxes l r (none i) s g next = refl
+  after-old m k c n boxes l r (met b bs i h) s g next = refl
+  after-old m k c n boxes l r (floor b bs i h) s g next = refl
+  after-old m k c n boxes l r (spent b bs i) s g next = refl
+  after-old m k c n boxes l r (some b bs i h) s g next =
+      (λ j. ifRoom (leb (length new) (q .room)) (corner q k b) i (λ c' n'. next (deeper p k) new c' n' still grid j))
+      ∙ ap (λ (bs' : List Box). ifRoom (leb (length bs') (q .room)) (corner q k b) i (oldLevels q (check q) m (deeper p k) bs')) (halves-old p k (b ∷ bs) (le-trans (still .t) deep) g)
+    where
+      p : Parameter
+      p = split q k
+
+      new : List Box
+      new = halves q (deeper p k) p (b ∷ bs)
+
+      still : Shallow q (deeper p k)
+      still = deeper-shallow q k s h p (split-open q k s h)
+
+      grid : Every (InGrid (deeper p k)) new
+      grid = every-weaken (λ b x. x .0) new (halves-grid q k p (b ∷ bs) g)
+
+  levels-old : (m : ℕ) (k : Depths) (boxes : List Box) (c : Corner) (n : ℕ) → Shallow q k → Every (InGrid k) boxes → levels m q k boxes c n ≡ oldLevels q (check q) m k boxes c n
+  unfolding levels oldLevels
+  levels-old zero k boxes c n s g = refl
+  levels-old (suc m) k boxes c n s g =
+      after-old m k c n (length boxes) (those (survives q k) boxes) (check q k boxes false c n) (check-first q k boxes c n) s
+      (every-weaken (λ b x. x .0) (those (survives q k) boxes) (those-every (InGrid k) (survives q k) boxes g))
+      (λ k' new c' n' s' g'. levels-old m k' new c' n' s' g')
+
+  run-old : run q ≡ oldRun q (check q)
+  unfolding run oldRun
+  run-old =
+      levels-old 61 origin (origin ∷ []) (record { t = 0; u = 0; v = 0; excess = 0 }) 0
+      (record { t = omega arith; u = omega arith; v = omega arith }) (record { t = omega arith; u = omega arith; v = omega arith }, tt)
 
 -- ---- a question whose three separations are d
 module _ (q : Query) (d : ℕ) (e : (axis : Axis) → q .separation axis ≡ d) where
@@ -70,76 +130,31 @@ module _ (q : Query) (d : ℕ) (e : (axis : Axis) → q .separation axis ≡ d) 
       ap (λ (alive : Bool). oneBox q k box (eqb n (q .budget)) alive seen c n (λ s b. check q k rest s b (n + 1))) (survives-old k box)
       ∙ one-old k box (eqb n (q .budget)) (oldSurvives q d k box) seen c n _ _ (λ s b. check-old k rest s b (n + 1))
 
-  -- ---- the whole step: no half is beyond it
-  module _ (deep : q .deepest ≤ 20) (whole : q .last ≡ parts) where
-    inside-old : (k : Depths) (b : Box) → k .t ≤ 20 → InGrid k b → inside q k b ≡ oldInside q d k b
-    unfolding inside oldInside
-    inside-old k b h g =
-        ap (λ (x : Bool). x && (not (q .isFace) || leb (low (k .u) (b .u) + low (k .v) (b .v)) parts))
-        (ap (λ (n : ℕ). leb (low (k .t) (b .t)) n) whole ∙ le-leb (low (k .t) (b .t)) parts (low-parts (k .t) (b .t) h (g .t)))
+-- ---- a record with cap 0
+module _ (r : Record) (words : ℕ) (cap : r .cap ≡ 0) where
+  cap-old : isCap (r .cap) ≡ true
+  cap-old = ap isCap cap
 
-    those-old : (k : Depths) (l : List Box) → k .t ≤ 20 → Every (InGrid k) l → those (inside q k) l ≡ those (oldInside q d k) l
-    unfolding those
-    those-old k [] h g = refl
-    those-old k (b ∷ bs) h g = λ i. cond (inside-old k b h (g .0) i) (b ∷ those-old k bs h (g .1) i) (those-old k bs h (g .1) i)
+  flags-old : (b : Bool) → (b && eqb (r .cap) 0) ≡ b
+  flags-old b = ap (λ (n : ℕ). b && eqb n 0) cap ∙ and-true b
 
-    halves-old : (p : Parameter) (k : Depths) (l : List Box) → deeper p k .t ≤ 20 → Every (InGrid k) l → halves q (deeper p k) p l ≡ oldHalves q d (deeper p k) p l
-    unfolding halves oldHalves
-    halves-old p k l h g =
-        λ i. merge
-        (those-old (deeper p k) (map (lowHalf p) l) h (map-every (InGrid k) (InGrid (deeper p k)) (lowHalf p) (λ b. low-grid p k b) l g) i)
-        (those-old (deeper p k) (map (highHalf p) l) h (map-every (InGrid k) (InGrid (deeper p k)) (highHalf p) (λ b. high-grid p k b) l g) i)
+  pub refusal-before : searchRefusal r words ≡ uncappedRefusal r words
+  unfolding searchRefusal uncappedRefusal first
+  refusal-before = rw (cap-old, flags-old (leb (r .flags) 1 && eqb (r .byte2) 0 && eqb (r .byte3) 0))
 
-    -- l are the survivors; `next`: the levels after this one
-    after-old : (m : ℕ) (k : Depths) (c : Corner) (n boxes : ℕ) (l : List Box) (r : Checked) → Outcome q k c n boxes l r → Shallow q k → Every (InGrid k) l
-        → ((k' : Depths) (new : List Box) (c' : Corner) (n' : ℕ) → Shallow q k' → Every (InGrid k') new → levels m q k' new c' n' ≡ oldLevels q d m k' new c' n')
-        → afterLevel q k (levels m q) r ≡ oldAfterLevel q d k (oldLevels q d m) r
-    unfolding afterLevel oldAfterLevel
-    after-old m k c n boxes l r (early i h f) s g next = refl
-    after-old m k c n boxes l r (none i) s g next = refl
-    after-old m k c n boxes l r (met b bs i h) s g next = refl
-    after-old m k c n boxes l r (floor b bs i h) s g next = refl
-    after-old m k c n boxes l r (spent b bs i) s g next = refl
-    after-old m k c n boxes l r (some b bs i h) s g next =
-        (λ j. ifRoom (leb (length new) (q .room)) (corner q k b) i (λ c' n'. next (deeper p k) new c' n' still grid j))
-        ∙ ap (λ (bs' : List Box). ifRoom (leb (length bs') (q .room)) (corner q k b) i (oldLevels q d m (deeper p k) bs')) (halves-old p k (b ∷ bs) (le-trans (still .t) deep) g)
-      where
-        p : Parameter
-        p = split q k
+  pub search-before : search r words ≡ uncappedSearch r words
+  unfolding search uncappedSearch
+  search-before = λ i. unless (refusal-before i) (run-old (query r words) (editions-deep (eqb (r .edition) 3)) (ap lastMoment cap) i)
 
-        new : List Box
-        new = halves q (deeper p k) p (b ∷ bs)
+pub cap-0-as-before : Cap-0-as-before
+cap-0-as-before r words cap = search-before r words cap
 
-        still : Shallow q (deeper p k)
-        still = deeper-shallow q k s h p (split-open q k s h)
-
-        grid : Every (InGrid (deeper p k)) new
-        grid = every-weaken (λ b x. x .0) new (halves-grid q k p (b ∷ bs) g)
-
-    levels-old : (m : ℕ) (k : Depths) (boxes : List Box) (c : Corner) (n : ℕ) → Shallow q k → Every (InGrid k) boxes → levels m q k boxes c n ≡ oldLevels q d m k boxes c n
-    unfolding levels oldLevels
-    levels-old zero k boxes c n s g = refl
-    levels-old (suc m) k boxes c n s g =
-        after-old m k c n (length boxes) (those (survives q k) boxes) (check q k boxes false c n) (check-first q k boxes c n) s
-        (every-weaken (λ b x. x .0) (those (survives q k) boxes) (those-every (InGrid k) (survives q k) boxes g))
-        (λ k' new c' n' s' g'. levels-old m k' new c' n' s' g')
-        ∙ ap (λ (r : Checked). oldAfterLevel q d k (oldLevels q d m) r) (check-old k boxes false c n)
-
-    run-old : run q ≡ oldRun q d
-    unfolding run oldRun
-    run-old =
-        levels-old 61 origin (origin ∷ []) (record { t = 0; u = 0; v = 0; excess = 0 }) 0
-        (record { t = omega arith; u = omega arith; v = omega arith }) (record { t = omega arith; u = omega arith; v = omega arith }, tt)
-
--- ---- a record
+-- ---- and with three equal separations
 module _ (r : Record) (d words : ℕ) (x : r .dx ≡ d) (y : r .dy ≡ d) (z : r .dz ≡ d) (cap : r .cap ≡ 0) (limits : limitsOf (r .edition) ≡ limitsOf 1) where
   separation-old : (axis : Axis) → separationOn r axis ≡ d
   separation-old X = x
   separation-old Y = y
   separation-old Z = z
-
-  cap-old : isCap (r .cap) ≡ true
-  cap-old = ap isCap cap
 
   three : (b : Bool) → (b && b && b) ≡ b
   three true = refl
@@ -148,13 +163,15 @@ module _ (r : Record) (d words : ℕ) (x : r .dx ≡ d) (y : r .dy ≡ d) (z : r
   range-old : (isSeparation (r .dx) && isSeparation (r .dy) && isSeparation (r .dz)) ≡ isSeparation d
   range-old = (λ i. isSeparation (x i) && isSeparation (y i) && isSeparation (z i)) ∙ three (isSeparation d)
 
-  refusal-old : searchRefusal r words ≡ oldRefusal r d words
-  unfolding searchRefusal oldRefusal first
-  refusal-old = rw (limits, cap-old, range-old)
+  refusal-old : uncappedRefusal r words ≡ oldRefusal r d words
+  unfolding uncappedRefusal oldRefusal first
+  refusal-old = rw (limits, flags-old r words cap (leb (r .flags) 1 && eqb (r .byte2) 0 && eqb (r .byte3) 0), range-old)
 
   search-old : search r words ≡ oldSearch r d words
-  unfolding search oldSearch
-  search-old = λ i. unless (refusal-old i) (run-old (query r words) d separation-old (editions-deep (eqb (r .edition) 3)) (ap lastMoment cap) i)
+  unfolding uncappedSearch oldSearch
+  search-old =
+      search-before r words cap
+      ∙ λ i. unless (refusal-old i) (oldRun (query r words) (λ k boxes seen c n. check-old (query r words) d separation-old k boxes seen c n i))
 
 pub three-equal : Three-equal
 three-equal r d words x y z cap limits = search-old r d words x y z cap limits
