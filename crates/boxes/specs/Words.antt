@@ -71,3 +71,12 @@ module _ (a b : Box) (f : Fits a) (g : Fits b) where
   pub same-order : notAfter a b ≡ leb (stored a) (stored b)
   unfolding notAfter
   same-order = in-t (ltb (a .t) (b .t)) (eqb (a .t) (b .t)) refl refl
+
+-- halving keeps it
+pub half-order : (p : Parameter) (high : Bool) (a b : Box) → Fits a → Fits b → Fits (halfOf p high a) → Fits (halfOf p high b) → stored a ≤ stored b → stored (halfOf p high a) ≤ stored (halfOf p high b)
+half-order InT false a b f g x y o = omega (arith, f .u, f .v, g .u, g .v)
+half-order InU false a b f g x y o = omega (arith, f .v, g .v, x .u, y .u)
+half-order InV false a b f g x y o = omega (arith, f .u, g .u, x .v, y .v)
+half-order InT true a b f g x y o = omega (arith, f .u, f .v, g .u, g .v)
+half-order InU true a b f g x y o = omega (arith, f .v, g .v, x .u, y .u)
+half-order InV true a b f g x y o = omega (arith, f .u, g .u, x .v, y .v)

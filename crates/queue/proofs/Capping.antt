@@ -1,28 +1,17 @@
--- The cap asked on words: a low half is not beyond it, and a high one is where its word is not below the bound.
+-- The cap asked on words: a half is beyond it where its word is not below the bound.
 use mathlib.Core.Path.{_≡_, refl, sym, ap, _∙_}
-use mathlib.Core.Bool.{Bool, true, false, not, _&&_, _||_, and-eq-true-iff}
+use mathlib.Core.Bool.{Bool, true, false, _&&_}
 use Prim.Native.Nat.{ℕ, _-_, _*_, _/_, _^_, _≤_, _<_}
-use native.Mathlib.Nat.{le-div-iff-mul-le, div-lt-iff-lt-mul}
+use native.Mathlib.Nat.{le-div-iff-mul-le, div-lt-iff-lt-mul, div-le-self}
+use native.Mathlib.Omega.{arith}
 use lib.Dec.{leb, ltb}
 use lib.Pow.{pow-pos}
-use borrow.Author.Tests.{leb-true, leb-false, le-leb, lt-leb}
-use Rattle.rules.specs.declared.Parameter.{Parameter}
+use borrow.Author.Tests.{leb-true, leb-false, le-leb, lt-leb, lt-ltb, le-ltb}
 use Rattle.rules.specs.Search.{Query, Box, Depths, stored, low, inside}
-use Rattle.kernel.specs.Ranges.{Shallow}
-use Rattle.boxes.specs.Boxes.{Fits, boxOf, halfOf}
+use Rattle.boxes.specs.Boxes.{Fits}
 use Rattle.boxes.specs.Words.{below-index}
 use Rattle.gap.specs.Asked.{inFace, inside-is}
-use Rattle.queue.specs.Grid.{fits-grid}
-use Rattle.queue.specs.declared.Halving.{Halving}
-use Rattle.queue.specs.Level.{Splits, boundOf, halvingOf}
-
--- a level's halving knows the parameter that it is of
-module _ (last : ℕ) (k : Depths) {p : Parameter} {c : Halving} (e : c ≡ halvingOf last k p) where
-  pub same-split : c .split ≡ p
-  same-split = ap (λ (d : Halving). d .split) e
-
-  pub own-halving : c ≡ halvingOf last k (c .split)
-  own-halving = e ∙ ap (halvingOf last k) (sym same-split)
+use Rattle.queue.specs.Level.{boundOf, past}
 
 leb-div : (i side last : ℕ) → 0 < side → leb i (last / side) ≡ leb (i * side) last
 leb-div i side last h = go (leb i (last / side)) refl
@@ -31,16 +20,19 @@ leb-div i side last h = go (leb i (last / side)) refl
     go true e = sym (le-leb (i * side) last (le-div-iff-mul-le h .0 (leb-true i (last / side) e)))
     go false e = sym (lt-leb (i * side) last (div-lt-iff-lt-mul h .0 (leb-false i (last / side) e)))
 
-pub below-bound : (last : ℕ) (k : Depths) (b : Box) → Fits b → ltb (stored b) (boundOf last k) ≡ leb (low (k .t) (b .t)) last
-below-bound last k b f = below-index b (last / 2 ^ (20 - k .t)) f ∙ leb-div (b .t) (2 ^ (20 - k .t)) last (pow-pos (20 - k .t))
+-- every bound is less than the word past the last
+pub bound-past : (last : ℕ) (k : Depths) → last ≤ 1_048_576 → boundOf last k < past
+bound-past last k h = omega (arith, div-le-self last (2 ^ (20 - k .t)))
 
-module _ (q : Query) (k : Depths) (p : Parameter) (w : ℕ) (shallow : Shallow 20 k) (x : Splits (q .last) k p w) where
-  in-time : (high : Bool) → (not high || ltb (stored (halfOf p high (boxOf w))) (boundOf (q .last) k)) ≡ leb (low (k .t) (halfOf p high (boxOf w) .t)) (q .last)
-  in-time false = sym (le-leb _ (q .last) (x .begins))
-  in-time true = below-bound (q .last) k (halfOf p true (boxOf w)) (fits-grid k (halfOf p true (boxOf w)) shallow (x .halves true))
+module _ (q : Query) (k : Depths) (b : Box) (f : Fits b) where
+  in-time : ltb (stored b) (boundOf (q .last) k) ≡ leb (low (k .t) (b .t)) (q .last)
+  in-time = below-index b (q .last / 2 ^ (20 - k .t)) f ∙ leb-div (b .t) (2 ^ (20 - k .t)) (q .last) (pow-pos (20 - k .t))
 
-  pub asked-by-word : (high : Bool) → ((not high || ltb (stored (halfOf p high (boxOf w))) (boundOf (q .last) k)) && inFace q k (halfOf p high (boxOf w))) ≡ inside q k (halfOf p high (boxOf w))
-  asked-by-word high = ap (λ (b : Bool). b && inFace q k (halfOf p high (boxOf w))) (in-time high) ∙ sym (inside-is q k (halfOf p high (boxOf w)))
+  asked-by-word : (below : Bool) → ltb (stored b) (boundOf (q .last) k) ≡ below → inside q k b ≡ (below && inFace q k b)
+  asked-by-word below e = inside-is q k b ∙ ap (λ (x : Bool). x && inFace q k b) (sym in-time ∙ e)
 
-pub inside-begins : (q : Query) (k : Depths) (b : Box) → inside q k b ≡ true → low (k .t) (b .t) ≤ q .last
-inside-begins q k b e = leb-true (low (k .t) (b .t)) (q .last) (and-eq-true-iff (leb (low (k .t) (b .t)) (q .last)) (inFace q k b) .0 (sym (inside-is q k b) ∙ e) .0)
+  pub inside-below : stored b < boundOf (q .last) k → inside q k b ≡ inFace q k b
+  inside-below h = asked-by-word true (lt-ltb (stored b) (boundOf (q .last) k) h)
+
+  pub outside-beyond : boundOf (q .last) k ≤ stored b → inside q k b ≡ false
+  outside-beyond h = asked-by-word false (le-ltb (stored b) (boundOf (q .last) k) h)

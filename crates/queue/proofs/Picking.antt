@@ -1,27 +1,28 @@
--- The half that goes first is the first of the merge, or is passed where it does not stay.
-use mathlib.Core.Path.{_≡_, refl, sym, ap, ap₂, _∙_}
-use mathlib.Core.Bool.{Bool, true, false, not, cond, _&&_, _||_}
+-- The half that is taken is the first of the merge, where it is inside.
+use mathlib.Core.Path.{_≡_, refl, sym, ap, subst, _∙_}
+use mathlib.Core.Bool.{Bool, true, false, cond}
 use mathlib.Core.Logic.{_⊎_, inl, inr, ⊎-elim}
-use mathlib.Core.List.{List, _∷_}
+use mathlib.Core.List.{List, [], _∷_}
 use Prim.Native.Nat.{ℕ, _+_, _^_, _≤_, _<_}
 use native.Mathlib.Omega.{arith}
-use lib.ListN.{length, getD, take}
-use lib.Seq.{getD-take}
-use lib.Dec.{leb, ltb}
-use borrow.Author.Tests.{le-leb, lt-leb, leb-true, leb-false, ltb-true, ltb-false}
+use lib.ListN.{length, getD, take, drop, length-drop, drop-of-length-le}
+use lib.Seq.{getD-take, getD-drop}
+use lib.Dec.{ltb}
+use borrow.Author.Tests.{le-leb, lt-leb, ltb-true, ltb-false}
 use Rattle.rules.specs.declared.Parameter.{Parameter}
 use Rattle.rules.specs.Search.{Query, Box, Depths, stored, inside, notAfter}
-use Rattle.kernel.specs.Ranges.{Shallow, InGrid}
-use Rattle.boxes.specs.Boxes.{boxOf, halfOf, halfBy}
-use Rattle.boxes.specs.Words.{same-order, unpack-pack, half-by}
-use Rattle.gap.specs.Asked.{inFace}
+use Rattle.kernel.specs.Ranges.{Shallow}
+use Rattle.boxes.specs.Boxes.{Fits, boxOf, halfOf, halfBy, indexBits, indexOne}
+use Rattle.boxes.specs.Words.{same-order, half-order, unpack-pack, pack-unpack, fits-word, half-by}
 use Rattle.queue.specs.declared.Halving.{Halving}
 use Rattle.queue.specs.declared.Half.{Half}
-use Rattle.queue.specs.All.{All, all-at, all-front}
-use Rattle.queue.specs.Grid.{fits-grid, stored-fits, stored-of-level}
-use Rattle.queue.specs.Level.{OfLevel, Splits, Looks, HalfIs, halvesFrom, halfAt, isLowFirst, past, boundOf}
-use Rattle.queue.proofs.Capping.{asked-by-word, inside-begins}
-use Rattle.queue.proofs.Merging.{step-last-high, step-pass-low, step-last-low, step-pass-high, step-low, step-high}
+use Rattle.queue.specs.declared.Taken.{Taken}
+use Rattle.queue.specs.All.{All, all-at, all-front, all-imp}
+use Rattle.queue.specs.Ascending.{Ascending, ascending-from}
+use Rattle.queue.specs.Grid.{fits-grid, stored-of-level}
+use Rattle.queue.specs.Level.{OfLevel, Splits, Halves, HalfIs, Took, TakenIs, halvesFrom, halfAt, past, boundOf}
+use Rattle.queue.proofs.Capping.{outside-beyond}
+use Rattle.queue.proofs.Merging.{step-low, step-high, none-left}
 
 below : {a n : ℕ} → a ≤ n → (a < n) ⊎ (a ≡ n)
 below {a} {n} h = go (ltb a n) refl
@@ -32,156 +33,129 @@ below {a} {n} h = go (ltb a n) refl
 
 -- ---- a half at its place
 
-module _ (q : Query) (k : Depths) (c : Halving) (high : Bool) (queue : List ℕ) (n i : ℕ) where
-  abbrev parent : ℕ
-  parent = getD queue i 0
+module _ (c : Halving) (high : Bool) (queue : List ℕ) (n i : ℕ) (x : Halves c queue n) (i-le : i ≤ n) where
+  abbrev half : ℕ → Box
+  half = halfAt (c .split) high (take n queue)
 
-  abbrev box : Box
-  box = halfOf (c .split) high (boxOf parent)
+  pub word-fits : (i ≡ n → ⊥) → getD queue i 0 < 2 ^ 60
+  word-fits ne = all-front (λ w. w < 2 ^ 60) queue n i (x .fits) (x .words) (omega arith)
 
-  pub splits-at : Looks q k c queue n i → (i ≡ n → ⊥) → Splits (q .last) k (c .split) parent
-  splits-at x ne = all-front (Splits (q .last) k (c .split)) queue n i (x .fits) (x .splits) (omega (arith, x .i-le))
+  pub half-there : (i ≡ n → ⊥) → (word : ℕ) → word ≡ halfBy (c .bits) (c .one) high (getD queue i 0) → HalfIs half n (record { at = i; word = word })
+  half-there ne word is =
+      let as-stored : word ≡ stored (halfOf (c .split) high (boxOf (getD queue i 0))) = is ∙ rw (x .bits, x .one) (half-by (c .split) high (getD queue i 0) (word-fits ne)) in
+      record { at-le = i-le; word = λ h. rw (getD-take n queue i 0 h) as-stored; none = λ z. absurd (ne z) }
 
-  module _ (x : Looks q k c queue n i) (ne : i ≡ n → ⊥) (word : ℕ) (is : word ≡ halfBy (c .bits) (c .one) high parent) where
-    pub half-word : word ≡ stored box
-    half-word = is ∙ ap (λ (d : Halving). halfBy (d .bits) (d .one) high parent) (x .halving) ∙ half-by (c .split) high parent (splits-at x ne .fits)
+  pub half-none : i ≡ n → HalfIs half n (record { at = i; word = past })
+  half-none e = record { at-le = i-le; word = λ h. absurd (omega arith); none = λ z. refl }
 
-    -- it is read back from its word
-    pub half-box : boxOf word ≡ box
-    half-box = rw half-word (unpack-pack box (fits-grid k box (x .shallow) (splits-at x ne .halves high)))
+-- the one whose word is not past is there
+pub is-there : (half : ℕ → Box) (n : ℕ) (r : Half) → HalfIs half n r → r .word < past → r .at < n
+is-there half n r x h = ⊎-elim (λ l. l) (λ z. absurd (omega (arith, x .none z))) (below (x .at-le))
 
-    stays-is : ((not high || ltb word (c .bound)) && inFace q k (boxOf word)) ≡ inside q k box
-    stays-is =
-        ap (λ (late : Bool). (not high || late) && inFace q k (boxOf word)) (ap₂ ltb half-word (ap (λ (d : Halving). d .bound) (x .halving)))
-        ∙ ap (λ (b : Box). (not high || ltb (stored box) (boundOf (q .last) k)) && inFace q k b) half-box
-        ∙ asked-by-word q k (c .split) parent (x .shallow) (splits-at x ne) high
+-- ---- a step of the merge
 
-    pub half-there : HalfIs q k (halfAt (c .split) high (take n queue)) n (record { at = i; word = word; stays = (not high || ltb word (c .bound)) && inFace q k (boxOf word) })
-    half-there = record {
-      at-le = x .i-le;
-      word = λ h. rw (getD-take n queue i 0 h) half-word;
-      box = λ h. rw (getD-take n queue i 0 h) half-box;
-      inside-is = λ h. rw (getD-take n queue i 0 h) stays-is;
-      none = λ z. absurd (ne z);
-      none-stays = λ z. absurd (ne z);
-    }
+module _ (q : Query) (k : Depths) (p : Parameter) (ws : List ℕ) (n : ℕ) (long : length ws ≡ n) (shallow : Shallow 20 k) (splits : All (Splits k p) ws) (ascends : Ascending ws) where
+  abbrev from : ℕ → ℕ → List Box
+  from i j = halvesFrom q k p ws i j
 
-  pub half-none : i ≡ n → HalfIs q k (halfAt (c .split) high (take n queue)) n (record { at = i; word = past; stays = true })
-  half-none e = record {
-    at-le = omega arith;
-    word = λ h. absurd (omega arith);
-    box = λ h. absurd (omega arith);
-    inside-is = λ h. absurd (omega arith);
-    none = λ z. refl;
-    none-stays = λ z. refl;
-  }
+  fits : (high : Bool) (w : ℕ) → Splits k p w → Fits (halfOf p high (boxOf w))
+  fits high w x = fits-grid k (halfOf p high (boxOf w)) shallow (x .halves high)
 
--- ---- which of two goes first
+  -- the word of a box's half is not less
+  abbrev NotLess : Bool → ℕ → ℕ → Type 0
+  NotLess high word w = (word ≤ stored (halfOf p high (boxOf w))) × Splits k p w
 
--- what the test says
-pub data First (x y : ℕ) : Bool → Bool → Bool → Type 0 where
-  pass-low : {s : Bool} → First x y false s true
-  pass-high : First x y true false false
-  not-after : x ≤ y → First x y true true true
-  after : y < x → First x y true true false
+  in-order : (high : Bool) (w v : ℕ) → Splits k p w → Splits k p v → w ≤ v → NotLess high (stored (halfOf p high (boxOf w))) v
+  in-order high w v x y o = (half-order p high (boxOf w) (boxOf v) (fits-word w) (fits-word v) (fits high w x) (fits high v y) (rw (pack-unpack w (x .fits), pack-unpack v (y .fits)) o), y)
 
-first-is : (x y : ℕ) (s t : Bool) → First x y s t (not s || (t && leb x y))
-first-is x y false t = pass-low
-first-is x y true false = pass-high
-first-is x y true true = go (leb x y) refl
-  where
-    go : (b : Bool) → leb x y ≡ b → First x y true true b
-    go true e = not-after (leb-true x y e)
-    go false e = after (leb-false x y e)
+  ended : (i : ℕ) → i ≡ n → drop i ws ≡ []
+  ended i e = drop-of-length-le ws {i = i} (omega arith)
 
-module _ (q : Query) (k : Depths) (p : Parameter) (ws : List ℕ) (n : ℕ) (long : length ws ≡ n) (shallow : Shallow 20 k) (splits : All (Splits (q .last) k p) ws) where
-  grid : (high : Bool) (i : ℕ) → i < n → InGrid k (halfAt p high ws i)
-  grid high i h = all-at (Splits (q .last) k p) ws i splits (omega arith) .halves high
-
-  word-fits : (high : Bool) (h : Half) → HalfIs q k (halfAt p high ws) n h → h .at < n → h .word < 2 ^ 60
-  word-fits high h x l = stored-fits k (halfAt p high ws (h .at)) (h .word) shallow (grid high (h .at) l) (x .word l)
-
-  pub of-level : (high : Bool) (h : Half) → HalfIs q k (halfAt p high ws) n h → h .at < n → h .stays ≡ true → OfLevel (q .last) k (h .word)
-  of-level high h x l e =
-      let b = halfAt p high ws (h .at) in
-      stored-of-level (q .last) k b (h .word) shallow (grid high (h .at) l) (x .word l) (x .box l) (inside-begins q k b (sym (x .inside-is l) ∙ e))
-
-  order : (i j : ℕ) → i < n → j < n → notAfter (halfAt p false ws i) (halfAt p true ws j) ≡ leb (stored (halfAt p false ws i)) (stored (halfAt p true ws j))
-  order i j hi hj = same-order (halfAt p false ws i) (halfAt p true ws j) (fits-grid k (halfAt p false ws i) shallow (grid false i hi)) (fits-grid k (halfAt p true ws j) shallow (grid true j hj))
-
-  module _ (low high : Half) (l : HalfIs q k (halfAt p false ws) n low) (g : HalfIs q k (halfAt p true ws) n high) (some : low .at + high .at < n + n) where
-    abbrev from : ℕ → ℕ → List Box
-    from i j = halvesFrom q k p ws i j
-
-    abbrev low-box : Box
-    low-box = halfAt p false ws (low .at)
-
-    abbrev high-box : Box
-    high-box = halfAt p true ws (high .at)
-
-    pub record LowTaken : Type 0 where
-      pub here : low .at < n
-      pub halves : from (low .at) (high .at) ≡ cond (low .stays) (low-box ∷ from (low .at + 1) (high .at)) (from (low .at + 1) (high .at))
-
-    pub record HighTaken : Type 0 where
-      pub here : high .at < n
-      pub halves : from (low .at) (high .at) ≡ cond (high .stays) (high-box ∷ from (low .at) (high .at + 1)) (from (low .at) (high .at + 1))
-
-    low-here : low .stays ≡ false → low .at < n
-    low-here e = ⊎-elim (λ h. h) (λ z. let f = l .none-stays z in let no : _≡_ {A = ℕ} 0 1 = cc in omega arith) (below (l .at-le))
-
-    high-here : high .stays ≡ false → high .at < n
-    high-here e = ⊎-elim (λ h. h) (λ z. let f = g .none-stays z in let no : _≡_ {A = ℕ} 0 1 = cc in omega arith) (below (g .at-le))
-
-    -- none stands before a half that is there
-    low-in : high .at < n → low .word ≤ high .word → low .at < n
-    low-in j o = ⊎-elim (λ h. h) (λ z. omega (arith, l .none z, word-fits true high g j)) (below (l .at-le))
-
-    high-in : low .at < n → high .word < low .word → high .at < n
-    high-in i o = ⊎-elim (λ h. h) (λ z. omega (arith, g .none z, word-fits false low l i)) (below (g .at-le))
-
-    low-first : low .stays ≡ true → high .stays ≡ true → low .word ≤ high .word → LowTaken
-    low-first d e o =
+  module _ (high : Bool) (one : Half) (x : HalfIs (halfAt p high ws) n one) where
+    -- from its place on none has a lesser word
+    later : All (NotLess high (one .word)) (drop (one .at) ws)
+    later =
         ⊎-elim
-        (λ j. let i = low-in j o in
+        (λ l. subst (λ (w : ℕ). All (NotLess high w) (drop (one .at) ws)) (sym (x .word l))
+        (ascending-from (Splits k p) (λ w. NotLess high (stored (halfOf p high (boxOf w)))) (in-order high) ws (one .at) ascends splits (omega arith)))
+        (λ z. rw (ended (one .at) z) tt)
+        (below (x .at-le))
+
+    pub all-outside : boundOf (q .last) k ≤ one .word → All (λ v. inside q k (halfOf p high (boxOf v)) ≡ false) (drop (one .at) ws)
+    all-outside h =
+        all-imp (NotLess high (one .word)) (λ v. inside q k (halfOf p high (boxOf v)) ≡ false)
+        (λ v y. outside-beyond q k (halfOf p high (boxOf v)) (fits high v (y .1)) (omega (arith, y .0))) (drop (one .at) ws) later
+
+    module _ (here : one .at < n) where
+      abbrev box : Box
+      box = halfAt p high ws (one .at)
+
+      splits-here : Splits k p (getD ws (one .at) 0)
+      splits-here = all-at (Splits k p) ws (one .at) splits (omega arith)
+
+      box-fits : Fits box
+      box-fits = fits high (getD ws (one .at) 0) splits-here
+
+      box-is : boxOf (one .word) ≡ box
+      box-is = rw (x .word here) (unpack-pack box box-fits)
+
+      of-level : OfLevel k (one .word)
+      of-level = stored-of-level k box (one .word) shallow (splits-here .halves high) (x .word here) box-is
+
+      next-not-less : (next : Half) → next .at ≡ one .at + 1 → HalfIs (halfAt p high ws) n next → one .word ≤ next .word
+      next-not-less next e y =
+          ⊎-elim
+          (λ (l : next .at < n). let later-one = all-at (NotLess high (one .word)) (drop (one .at) ws) 1 later (rw (length-drop (one .at) ws) (omega (arith, l))) in
+          rw (y .word l, e) (rw (getD-drop (one .at) ws 1 0) at (later-one .0)))
+          (λ z. omega (arith, y .none z, of-level .fits))
+          (below (y .at-le))
+
+  -- what a half that is taken is to the merge and to the two that are next
+  pub record Steps (low high : Half) (r : Taken) : Type 0 where
+    pub halves : from (low .at) (high .at) ≡ cond (inside q k (boxOf (r .word))) (boxOf (r .word) ∷ from (r .low .at) (r .high .at)) (from (r .low .at) (r .high .at))
+    pub of-level : OfLevel k (r .word)
+    pub one-more : r .low .at + r .high .at ≡ low .at + high .at + 1
+    pub low-is : HalfIs (halfAt p false ws) n (r .low)
+    pub high-is : HalfIs (halfAt p true ws) n (r .high)
+    pub least : (r .word ≤ low .word) × (r .word ≤ high .word)
+    pub one-of : (w : ℕ) → w ≤ low .word → w ≤ high .word → w ≤ r .word
+    pub goes-up : (r .word ≤ r .low .word) × (r .word ≤ r .high .word)
+
+  module _ (low high : Half) (l : HalfIs (halfAt p false ws) n low) (g : HalfIs (halfAt p true ws) n high) where
+    pub all-taken : boundOf (q .last) k ≤ low .word → boundOf (q .last) k ≤ high .word → from (low .at) (high .at) ≡ []
+    all-taken d e = none-left q k p ws (low .at) (high .at) (all-outside false low l d) (all-outside true high g e)
+
+    steps-low : (r : Taken) → low .word ≤ high .word → Took (halfAt p false ws) n (r .word) low high (r .low) (r .high) → Steps low high r
+    steps-low r o t =
+        let b = box false low l (t .here) in
         record {
-          here = i;
-          halves = rw d (step-low q k p ws (low .at) (high .at) (omega arith) (omega arith) (sym (l .inside-is i) ∙ d) (sym (g .inside-is j) ∙ e)
-              (order (low .at) (high .at) i j ∙ le-leb (stored low-box) (stored high-box) (omega (arith, l .word i, g .word j))));
-        })
-        (λ z. let i : low .at < n = omega arith in
-        record { here = i; halves = rw d (step-last-low q k p ws (low .at) (high .at) (omega arith) (omega arith) (sym (l .inside-is i) ∙ d)) })
-        (below (g .at-le))
+          halves = rw (t .word, box-is false low l (t .here), t .one-more, t .waits) (step-low q k p ws (low .at) (high .at) (omega (arith, t .here))
+              (all-imp (NotLess true (high .word)) (λ v. notAfter b (halfOf p true (boxOf v)) ≡ true)
+              (λ v y. same-order b (halfOf p true (boxOf v)) (box-fits false low l (t .here)) (fits true v (y .1)) ∙ le-leb (stored b) (stored (halfOf p true (boxOf v))) (omega (arith, y .0, l .word (t .here)))) (drop (high .at) ws) (later true high g)));
+          of-level = rw (t .word) (of-level false low l (t .here));
+          one-more = rw (t .waits, t .one-more) (omega arith);
+          low-is = t .next-is;
+          high-is = rw (t .waits) g;
+          least = (omega (arith, t .word), omega (arith, t .word));
+          one-of = λ w h i. omega (arith, t .word);
+          goes-up = (rw (t .word) (next-not-less false low l (t .here) (r .low) (t .one-more) (t .next-is)), rw (t .word, t .waits) o);
+        }
 
-    high-first : low .stays ≡ true → high .stays ≡ true → high .word < low .word → HighTaken
-    high-first d e o =
-        ⊎-elim
-        (λ i. let j = high-in i o in
+    steps-high : (r : Taken) → high .word < low .word → Took (halfAt p true ws) n (r .word) high low (r .high) (r .low) → Steps low high r
+    steps-high r o t =
+        let b = box true high g (t .here) in
         record {
-          here = j;
-          halves = rw e (step-high q k p ws (low .at) (high .at) (omega arith) (omega arith) (sym (l .inside-is i) ∙ d) (sym (g .inside-is j) ∙ e)
-              (order (low .at) (high .at) i j ∙ lt-leb (stored low-box) (stored high-box) (omega (arith, l .word i, g .word j))));
-        })
-        (λ z. let j : high .at < n = omega arith in
-        record { here = j; halves = rw e (step-last-high q k p ws (low .at) (high .at) (omega arith) (omega arith) (sym (g .inside-is j) ∙ e)) })
-        (below (l .at-le))
+          halves = rw (t .word, box-is true high g (t .here), t .one-more, t .waits) (step-high q k p ws (low .at) (high .at) (omega (arith, t .here))
+              (all-imp (NotLess false (low .word)) (λ v. notAfter (halfOf p false (boxOf v)) b ≡ false)
+              (λ v y. same-order (halfOf p false (boxOf v)) b (fits false v (y .1)) (box-fits true high g (t .here)) ∙ lt-leb (stored (halfOf p false (boxOf v))) (stored b) (omega (arith, y .0, g .word (t .here)))) (drop (low .at) ws) (later false low l)));
+          of-level = rw (t .word) (of-level true high g (t .here));
+          one-more = rw (t .waits, t .one-more) (omega arith);
+          low-is = rw (t .waits) l;
+          high-is = t .next-is;
+          least = (omega (arith, t .word), omega (arith, t .word));
+          one-of = λ w h i. omega (arith, t .word);
+          goes-up = (rw (t .word, t .waits) (omega arith), rw (t .word) (next-not-less true high g (t .here) (r .high) (t .one-more) (t .next-is)));
+        }
 
-    low-taken : {s t b : Bool} → low .stays ≡ s → high .stays ≡ t → First (low .word) (high .word) s t b → b ≡ true → LowTaken
-    low-taken d e pass-low f =
-        let i = low-here d in record { here = i; halves = rw d (step-pass-low q k p ws (low .at) (high .at) (omega arith) (sym (l .inside-is i) ∙ d)) }
-    low-taken d e (not-after o) f = low-first d e o
-    low-taken d e pass-high f = absurd (let no : _≡_ {A = ℕ} 0 1 = cc in omega arith)
-    low-taken d e (after o) f = absurd (let no : _≡_ {A = ℕ} 0 1 = cc in omega arith)
-
-    high-taken : {s t b : Bool} → low .stays ≡ s → high .stays ≡ t → First (low .word) (high .word) s t b → b ≡ false → HighTaken
-    high-taken d e pass-high f =
-        let j = high-here e in record { here = j; halves = rw e (step-pass-high q k p ws (low .at) (high .at) (omega arith) (sym (g .inside-is j) ∙ e)) }
-    high-taken d e (after o) f = high-first d e o
-    high-taken d e pass-low f = absurd (let no : _≡_ {A = ℕ} 0 1 = cc in omega arith)
-    high-taken d e (not-after o) f = absurd (let no : _≡_ {A = ℕ} 0 1 = cc in omega arith)
-
-    pub taken-low : isLowFirst low high ≡ true → LowTaken
-    taken-low = low-taken refl refl (first-is (low .word) (high .word) (low .stays) (high .stays))
-
-    pub taken-high : isLowFirst low high ≡ false → HighTaken
-    taken-high = high-taken refl refl (first-is (low .word) (high .word) (low .stays) (high .stays))
+    pub steps : (r : Taken) → TakenIs p ws n low high r → Steps low high r
+    steps r = ⊎-elim (λ t. steps-low r (t .0) (t .1)) (λ t. steps-high r (t .0) (t .1))

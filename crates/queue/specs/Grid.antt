@@ -1,14 +1,14 @@
 -- A box of a level fits a word, and its halves are boxes of the next level.
-use mathlib.Core.Path.{_≡_, refl, sym, ap, subst, _∙_}
+use mathlib.Core.Path.{_≡_}
 use mathlib.Core.Bool.{Bool, true, false}
-use Prim.Native.Nat.{ℕ, _+_, _-_, _*_, _^_, _≤_, _<_}
-use native.Mathlib.Nat.{lt-of-lt-of-le, mul-assoc, mul-left-comm, pow-suc}
+use Prim.Native.Nat.{ℕ, _+_, _*_, _^_, _<_}
+use native.Mathlib.Nat.{lt-of-lt-of-le, pow-suc}
 use native.Mathlib.Numerals.{add-one}
 use native.Mathlib.Omega.{arith}
 use lib.Pow.{pow-mono}
 use Rattle.rules.specs.declared.Parameter.{Parameter}
 use Rattle.rules.specs.declared.Parameter.the-variants.{InT, InU, InV}
-use Rattle.rules.specs.Search.{Box, Depths, stored, low, deeper}
+use Rattle.rules.specs.Search.{Box, Depths, stored, deeper}
 use Rattle.kernel.specs.Ranges.{Shallow, InGrid}
 use Rattle.boxes.specs.Boxes.{boxOf, halfOf, Fits}
 use Rattle.queue.specs.Level.{OfLevel, Splits}
@@ -27,8 +27,8 @@ pub stored-fits : (k : Depths) (b : Box) (w : ℕ) → Shallow 20 k → InGrid k
 stored-fits k b w s g e = let h = fits-grid k b s g in omega (arith, e, h .t, h .u, h .v)
 
 -- a word of a box of the level
-pub stored-of-level : (last : ℕ) (k : Depths) (b : Box) (w : ℕ) → Shallow 20 k → InGrid k b → w ≡ stored b → boxOf w ≡ b → low (k .t) (b .t) ≤ last → OfLevel last k w
-stored-of-level last k b w s g e f l = record { grid = rw f g; fits = stored-fits k b w s g e; begins = subst (λ (x : Box). low (k .t) (x .t) ≤ last) (sym f) l }
+pub stored-of-level : (k : Depths) (b : Box) (w : ℕ) → Shallow 20 k → InGrid k b → w ≡ stored b → boxOf w ≡ b → OfLevel k w
+stored-of-level k b w s g e f = record { grid = rw f g; fits = stored-fits k b w s g e }
 
 -- one bit more
 more-low : (i k : ℕ) → i < 2 ^ k → 2 * i < 2 ^ (k + 1)
@@ -45,20 +45,5 @@ half-grid InU true k b g = record { t = g .t; u = more-high _ _ (g .u); v = g .v
 half-grid InV false k b g = record { t = g .t; u = g .u; v = more-low _ _ (g .v) }
 half-grid InV true k b g = record { t = g .t; u = g .u; v = more-high _ _ (g .v) }
 
--- a low half begins when its box does
-low-double : (k i : ℕ) → k + 1 ≤ 20 → low (k + 1) (2 * i) ≡ low k i
-low-double k i h =
-    let e : 20 - (k + 1) + 1 ≡ 20 - k = omega arith in
-    mul-assoc 2 i (2 ^ (20 - (k + 1))) ∙ mul-left-comm 2 i (2 ^ (20 - (k + 1))) ∙ ap (λ (n : ℕ). i * n) (sym (double (20 - (k + 1))) ∙ ap (λ (n : ℕ). 2 ^ n) e)
-
-half-begins : (p : Parameter) (k : Depths) (b : Box) → Shallow 20 (deeper p k) → low (deeper p k .t) (halfOf p false b .t) ≡ low (k .t) (b .t)
-half-begins InT k b s = low-double (k .t) (b .t) (s .t)
-half-begins InU k b s = refl
-half-begins InV k b s = refl
-
-pub splits-grid : (last : ℕ) (p : Parameter) (k : Depths) → Shallow 20 (deeper p k) → (w : ℕ) → OfLevel last k w → Splits last (deeper p k) p w
-splits-grid last p k s w g = record {
-  fits = g .fits;
-  halves = λ high. half-grid p high k (boxOf w) (g .grid);
-  begins = rw (half-begins p k (boxOf w) s) (g .begins);
-}
+pub splits-grid : (p : Parameter) (k : Depths) (w : ℕ) → OfLevel k w → Splits (deeper p k) p w
+splits-grid p k w g = record { fits = g .fits; halves = λ high. half-grid p high k (boxOf w) (g .grid) }

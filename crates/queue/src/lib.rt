@@ -3,9 +3,8 @@ ghost use mathlib.Core.Path.{_≡_};
 ghost use mathlib.Core.List.{_++_};
 ghost use Prim.Native.Nat.{_+_, _≤_};
 ghost use lib.ListN.{length, take, drop, replicate};
-ghost use Rattle.kernel.specs.Kernel.{asked};
 ghost use Rattle.queue.specs.Cleared.{cleared};
-ghost use Rattle.queue.specs.Level.{halvingOf, Looks, HalfIs, halfAt, isLowFirst, Takes, TakenIs, Grows, Grown};
+ghost use Rattle.queue.specs.Level.{halvingOf, Halves, HalfIs, halfAt, Takes, TakenIs, Grows, Grown};
 use boxes::half_by;
 use boxes::index_bits;
 use boxes::index_one;
@@ -68,70 +67,52 @@ fn halving_of(p: Pair, k: Three, split: Parameter) -> Halving
     }
 }
 
-// Greater than the word of any box.
+// Greater than the word of any box, and than any bound.
 const PAST: u64 = 18446744073709551615;
 
-// A half at its place among the low or the high halves: its word, and whether it stays. Past the last place stands one that stays, with the word `PAST`.
+// A half at its place among the low or the high halves, by its word. Past the last place stands the word `PAST`.
 pub struct Half {
     pub at: usize,
     pub word: u64,
-    pub stays: bool,
 }
 
-// The low or the high half of the box at a place. A low half begins when its box does, which is not beyond the cap.
-fn half_at(p: Pair, k: Three, c: Halving, high: bool, queue: &[u64], n: usize, at: usize) -> Half
-    requires { ⌜ Looks (asked p) k c (now queue) n at ⌝ }
-    ensures { λ r. ⌜ (r .at ≡ at) × HalfIs (asked p) k (halfAt (c .split) high (take n (now (queue .entry)))) n r ⌝ }
+// The low or the high half of the box at a place.
+fn half_at(c: Halving, high: bool, queue: &[u64], n: usize, at: usize) -> Half
+    requires { ⌜ Halves c (now queue) n × (at ≤ n) ⌝ }
+    ensures { λ r. ⌜ (r .at ≡ at) × HalfIs (halfAt (c .split) high (take n (now (queue .entry)))) n r ⌝ }
 {
     if at == n {
-        return Half {
-            at,
-            word: PAST,
-            stays: true,
-        };
+        return Half { at, word: PAST };
     }
-    let word = half_by(c.bits, c.one, high, queue[at]);
-    let b = unpack(word);
     Half {
         at,
-        word,
-        stays: (!high | (word < c.bound)) & gap::in_face(p, k, b),
+        word: half_by(c.bits, c.one, high, queue[at]),
     }
-}
-
-// Whether the low half goes before the high one; one that does not stay goes by itself, so that it is passed.
-fn is_low_first(low: Half, high: Half) -> bool
-    ensures { λ r. ⌜ r ≡ isLowFirst low high ⌝ }
-{
-    !low.stays | (high.stays & (low.word <= high.word))
 }
 
 // The half that goes first, and the two that are next then.
 pub struct Taken {
     pub word: u64,
-    pub stays: bool,
     pub low: Half,
     pub high: Half,
 }
 
 // Only the list that the half is taken from goes on, so that each half is worked out once.
-fn take_half(p: Pair, k: Three, c: Halving, queue: &[u64], n: usize, low: Half, high: Half) -> Taken
-    requires { ⌜ Takes (asked p) k c (now queue) n low high ⌝ }
-    ensures { λ r. ⌜ TakenIs (asked p) k (c .split) (take n (now (queue .entry))) n low high r ⌝ }
+fn take_half(c: Halving, queue: &[u64], n: usize, low: Half, high: Half) -> Taken
+    requires { ⌜ Takes c (now queue) n low high ⌝ }
+    ensures { λ r. ⌜ TakenIs (c .split) (take n (now (queue .entry))) n low high r ⌝ }
 {
-    if is_low_first(low, high) {
-        let next = half_at(p, k, c, false, queue, n, low.at + 1);
+    if low.word <= high.word {
+        let next = half_at(c, false, queue, n, low.at + 1);
         Taken {
             word: low.word,
-            stays: low.stays,
             low: next,
             high,
         }
     } else {
-        let next = half_at(p, k, c, true, queue, n, high.at + 1);
+        let next = half_at(c, true, queue, n, high.at + 1);
         Taken {
             word: high.word,
-            stays: high.stays,
             low,
             high: next,
         }
@@ -144,21 +125,22 @@ pub enum Next {
     Level(usize),
 }
 
-// Writes the next level of the n survivors at the front from h on; k are the depths after the split.
+// Writes the next level of the n survivors at the front from h on; k are the depths after the split. The words ascend, so that no half stays after the first word that is not below the bound.
 pub fn grow(p: Pair, k: Three, split: Parameter, queue: &mut [u64], n: usize) -> Next
     requires { ⌜ Grows p k split (now queue) n ⌝ }
     ensures { λ r. ⌜ Grown p k split n (now (queue .entry)) (now (queue .exit)) r ⌝ }
 {
     let h = p.room;
     let c = halving_of(p, k, split);
-    let mut low = half_at(p, k, c, false, queue, n, 0);
-    let mut high = half_at(p, k, c, true, queue, n, 0);
+    let mut low = half_at(c, false, queue, n, 0);
+    let mut high = half_at(c, true, queue, n, 0);
     let mut m = 0;
-    while low.at + high.at < n + n {
-        let next = take_half(p, k, c, queue, n, low, high);
+    while (low.word < c.bound) | (high.word < c.bound) {
+        let next = take_half(c, queue, n, low, high);
         low = next.low;
         high = next.high;
-        if next.stays {
+        let b = unpack(next.word);
+        if gap::in_face(p, k, b) {
             if m == h {
                 return Next::Room;
             }

@@ -17,6 +17,7 @@ use Rattle.kernel.specs.declared.Pair.{Pair}
 use Rattle.kernel.specs.Kernel.{asked}
 use Rattle.boxes.specs.Boxes.{boxOf}
 use Rattle.queue.specs.All.{All, all-snoc, all-front}
+use Rattle.queue.specs.Ascending.{Ascending, ascending-without}
 use Rattle.queue.specs.Level.{OfLevel}
 use Rattle.queue.specs.Walk.{same-at, same-after, part-cons}
 use Rattle.search.specs.declared.First.{First}
@@ -63,7 +64,8 @@ pub record Checking (p : Pair) (l : Level) (old new : List ℕ) (corner : Corner
   pub len : length new ≡ length old
   pub within : count ≤ p .budget
   pub unread : drop i new ≡ drop i old
-  pub grid : All (OfLevel (p .last) (l .depths)) (take m new)
+  pub grid : All (OfLevel (l .depths)) (take m new)
+  pub ascends : Ascending (take m new ++ drop i (take (l .size) old))
   pub not-full : 0 < m → full (asked p) (l .depths) ≡ false
   pub done : pre (map boxOf (take m new)) (check (asked p) (l .depths) (map boxOf (drop i (take (l .size) old))) (ltb 0 m) corner count)
       ≡ check (asked p) (l .depths) (boxes old l) false (l .corner) (l .count)
@@ -83,6 +85,7 @@ module _ (p : Pair) (l : Level) (old : List ℕ) (fine : Fine p old l) where
     within = fine .within;
     unread = refl;
     grid = tt;
+    ascends = fine .ascends;
     not-full = λ h. absurd (omega arith);
     done = pre-none whole;
   }
@@ -98,8 +101,8 @@ module _ (p : Pair) (l : Level) (old : List ℕ) (fine : Fine p old l) where
       abbrev rest : List Box
       rest = map boxOf (drop (i + 1) (take (l .size) old))
 
-      of-level : OfLevel (p .last) (l .depths) (getD new i 0)
-      of-level = rw (same-at i new old (k .unread)) (all-front (OfLevel (p .last) (l .depths)) old (l .size) i fits (fine .grid) more)
+      of-level : OfLevel (l .depths) (getD new i 0)
+      of-level = rw (same-at i new old (k .unread)) (all-front (OfLevel (l .depths)) old (l .size) i fits (fine .grid) more)
 
       pub one-box : OneBox p (l .depths) box
       one-box = record {
@@ -139,6 +142,7 @@ module _ (p : Pair) (l : Level) (old : List ℕ) (fine : Fine p old l) where
               within = omega arith;
               unread = unread-put;
               grid = rw same (k .grid);
+              ascends = rw same (ascending-without (take m new) (getD new i 0) (drop (i + 1) (take (l .size) old)) (rw opened at (k .ascends)));
               not-full = k .not-full;
               done = rw same (checked false e);
             }
@@ -154,7 +158,8 @@ module _ (p : Pair) (l : Level) (old : List ℕ) (fine : Fine p old l) where
               len = len-put;
               within = omega arith;
               unread = unread-put;
-              grid = rw (add-one m, take-suc-set new m (getD new i 0) long) (all-snoc (OfLevel (p .last) (l .depths)) (take m new) (getD new i 0) (k .grid) of-level);
+              grid = rw (add-one m, take-suc-set new m (getD new i 0) long) (all-snoc (OfLevel (l .depths)) (take m new) (getD new i 0) (k .grid) of-level);
+              ascends = rw (add-one m, take-suc-set new m (getD new i 0) long, append-assoc) (rw opened at (k .ascends));
               not-full = λ h. f;
               done = rw (lt-ltb 0 (m + 1) (omega arith), add-one m, take-suc-set new m (getD new i 0) long, map-append) (pre-more (map boxOf (take m new)) box (check (asked p) (l .depths) rest true d (count + 1)) ∙ e);
             }
@@ -200,6 +205,7 @@ module _ (p : Pair) (l : Level) (old : List ℕ) (fine : Fine p old l) where
               twice = omega (arith, fine .twice, k .len);
               within = k .within;
               grid = k .grid;
+              ascends = rw (z, append-nil) at (k .ascends);
               tidy = left-tidy;
             };
             depths = refl;

@@ -51,7 +51,8 @@ module _ (p : Pair) (queue : List ℕ) (z : Zeroed p queue) where
       used = z .ranged .least-room;
       twice = omega (arith, z .room);
       within = omega arith;
-      grid = rw first (record { grid = record { t = omega arith; u = omega arith; v = omega arith }; fits = omega arith; begins = omega arith }, tt);
+      grid = rw first (record { grid = record { t = omega arith; u = omega arith; v = omega arith }; fits = omega arith }, tt);
+      ascends = rw first (tt, tt);
       tidy = record { low = λ a h k. at-zero a; high = λ a h. at-zero a };
     };
     len = refl;

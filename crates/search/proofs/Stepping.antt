@@ -57,7 +57,8 @@ module _ (p : Pair) (l : Level) (old : List ℕ) (x : Splitting p old l) where
     fits = omega (arith, x .fine .size, x .fine .used);
     twice = x .fine .twice;
     last = x .fine .ranged .last;
-    splits = all-imp (OfLevel (p .last) (l .depths)) (Splits (p .last) depths parameter) (splits-grid (p .last) parameter (l .depths) (shallower (x .fine .ranged .deepest) shallow)) (take (l .size) old) (x .fine .grid);
+    splits = all-imp (OfLevel (l .depths)) (Splits depths parameter) (splits-grid parameter (l .depths)) (take (l .size) old) (x .fine .grid);
+    ascends = x .fine .ascends;
   }
 
   some : 0 < length (boxes old l)
@@ -99,6 +100,7 @@ module _ (p : Pair) (l : Level) (old : List ℕ) (x : Splitting p old l) where
             twice = omega (arith, len₃, x .fine .twice);
             within = x .fine .within;
             grid = rw brought (g .next .grid);
+            ascends = rw brought (g .next .ascends);
             tidy = tidy-front (p .room) used m q₃ q₂ (omega (arith, most)) (rw copied (drop-at (take m (drop (p .room) q₂)) (drop m q₂) m long))
                 (tidy-grown (p .room) (l .used) used m q₂ old (omega (arith, most)) (omega (arith, most)) (g .kept) (g .next .beyond) (x .fine .tidy));
           };

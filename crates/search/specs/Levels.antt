@@ -17,6 +17,7 @@ use Rattle.kernel.specs.Kernel.{asked}
 use Rattle.kernel.specs.Ranges.{Ranged, Shallow, InGrid}
 use Rattle.boxes.specs.Boxes.{boxOf}
 use Rattle.queue.specs.All.{All}
+use Rattle.queue.specs.Ascending.{Ascending}
 use Rattle.queue.specs.Level.{OfLevel}
 use Rattle.search.specs.declared.First.{First}
 use Rattle.search.specs.declared.First.the-variants.{Ends as EndsAt, Recorded}
@@ -67,7 +68,7 @@ pub record Opens (p : Pair) (k : Depths) (queue : List ℕ) (n : ℕ) : Type 0 w
   pub ranged : Ranged p
   pub shallow : Shallow (p .deepest) k
   pub fits : n ≤ length queue
-  pub grid : All (OfLevel (p .last) k) (take n queue)
+  pub grid : All (OfLevel k) (take n queue)
 
 abbrev pub boxes : List ℕ → Level → List Box
 boxes queue l = map boxOf (take (l .size) queue)
@@ -85,7 +86,8 @@ pub record Fine (p : Pair) (queue : List ℕ) (l : Level) : Type 0 where
   pub used : l .used ≤ p .room
   pub twice : p .room + p .room ≤ length queue
   pub within : l .count ≤ p .budget
-  pub grid : All (OfLevel (p .last) (l .depths)) (take (l .size) queue)
+  pub grid : All (OfLevel (l .depths)) (take (l .size) queue)
+  pub ascends : Ascending (take (l .size) queue)
   pub tidy : Tidy (p .room) (l .used) queue
 
 abbrev pub checkedAs : List ℕ → Step → Checked

@@ -1,81 +1,60 @@
--- Each way is a law of `Picking`.
-use mathlib.Core.Path.{sym, _∙_}
-use mathlib.Core.Bool.{true, false}
+-- The half with the lesser word is there, since one of the two is.
+use mathlib.Core.Path.{refl}
+use mathlib.Core.Bool.{false, true}
+use mathlib.Core.Logic.{inl, inr, ⊎-elim}
 use lib.ListN.{take}
-use lib.Seq.{length-take-le}
 use native.Mathlib.Omega.{arith}
-use borrow.Author.Needs.{needs}
-use Rattle.kernel.specs.Kernel.{asked}
-use Rattle.queue.proofs.Picking.{taken-low, taken-high, of-level}
+use Rattle.queue.specs.Level.{halfAt}
+use Rattle.queue.proofs.Picking.{is-there}
 use Rattle.queue.proofs.take_half.Statement.{statement}
 use Rattle.queue.proofs.take_half.Tie as tie
 
-is-low-first-requires : tie.Need-is-low-first-requires
-is-low-first-requires c κs = search needs
-
 add-half-at : tie.Need-add-half-at
 add-half-at c =
-    let s = c .before .before .before .before in
-    omega (arith, s .pre .low-is .at-le, s .pre .fits)
+    let s = c .before .before .before .before .before in
+    omega (arith, s .pre .low-is .at-le, s .pre .halves .fits)
 
 half-at-requires : tie.Need-half-at-requires
 half-at-requires c κs =
-    let s = c .before .before .before .before in
+    let s = c .before .before .before .before .before in
     let a = s .args in
-    let x = s .pre in
-    let long = length-take-le (a .n) (a .queue .now) (x .fits) in
-    let t = taken-low (asked (a .p)) (a .k) (a .c .split) (take (a .n) (a .queue .now)) (a .n) long (x .shallow) (x .splits) (a .low) (a .high) (x .low-is) (x .high-is) (x .some) (sym (c .before .before .is-low-first .ensures) ∙ c .before .if1 .taken) in
-    record { halving = x .halving; shallow = x .shallow; fits = x .fits; i-le = omega (arith, t .here); splits = x .splits }
+    let o = c .before .if1 .taken in
+    let here = is-there (halfAt (a .c .split) false (take (a .n) (a .queue .now))) (a .n) (a .low) (s .pre .low-is) (⊎-elim (λ h. h) (λ h. omega (arith, h, o)) (s .pre .some)) in
+    (s .pre .halves, omega (arith, here))
 
 add-half-at-2 : tie.Need-add-half-at-2
 add-half-at-2 c =
-    let s = c .before .before .before .before in
-    omega (arith, s .pre .high-is .at-le, s .pre .fits)
+    let s = c .before .before .before .before .before in
+    omega (arith, s .pre .high-is .at-le, s .pre .halves .fits)
 
 half-at-requires-2 : tie.Need-half-at-requires-2
 half-at-requires-2 c κs =
-    let s = c .before .before .before .before in
+    let s = c .before .before .before .before .before in
     let a = s .args in
-    let x = s .pre in
-    let long = length-take-le (a .n) (a .queue .now) (x .fits) in
-    let t = taken-high (asked (a .p)) (a .k) (a .c .split) (take (a .n) (a .queue .now)) (a .n) long (x .shallow) (x .splits) (a .low) (a .high) (x .low-is) (x .high-is) (x .some) (sym (c .before .before .is-low-first .ensures) ∙ c .before .if1 .left) in
-    record { halving = x .halving; shallow = x .shallow; fits = x .fits; i-le = omega (arith, t .here); splits = x .splits }
+    let o = c .before .if1 .left in
+    let here = is-there (halfAt (a .c .split) true (take (a .n) (a .queue .now))) (a .n) (a .high) (s .pre .high-is) (⊎-elim (λ h. omega (arith, h, o)) (λ h. h) (s .pre .some)) in
+    (s .pre .halves, omega (arith, here))
 
 returns : tie.Need-returns
 returns c =
-    let s = c .before .before .before .before .before in
+    let s = c .before .before .before .before .before .before in
     let a = s .args in
-    let x = s .pre in
-    let long = length-take-le (a .n) (a .queue .now) (x .fits) in
-    let t = taken-low (asked (a .p)) (a .k) (a .c .split) (take (a .n) (a .queue .now)) (a .n) long (x .shallow) (x .splits) (a .low) (a .high) (x .low-is) (x .high-is) (x .some) (sym (c .before .before .before .is-low-first .ensures) ∙ c .before .before .if1 .taken) in
-    record {
-      halves = rw (x .low-is .box (t .here), c .half-at .ensures .0) (t .halves);
-      of-level = of-level (asked (a .p)) (a .k) (a .c .split) (take (a .n) (a .queue .now)) (a .n) long (x .shallow) (x .splits) false (a .low) (x .low-is) (t .here);
-      one-more = omega (arith, c .half-at .ensures .0);
-      low-is = c .half-at .ensures .1;
-      high-is = x .high-is;
-    }
+    let o = c .before .before .if1 .taken in
+    let here = is-there (halfAt (a .c .split) false (take (a .n) (a .queue .now))) (a .n) (a .low) (s .pre .low-is) (⊎-elim (λ h. h) (λ h. omega (arith, h, o)) (s .pre .some)) in
+    inl (o, record { here = here; word = refl; one-more = c .half-at .ensures .0; next-is = c .half-at .ensures .1; waits = refl })
 
 returns-2 : tie.Need-returns-2
 returns-2 c =
-    let s = c .before .before .before .before .before in
+    let s = c .before .before .before .before .before .before in
     let a = s .args in
-    let x = s .pre in
-    let long = length-take-le (a .n) (a .queue .now) (x .fits) in
-    let t = taken-high (asked (a .p)) (a .k) (a .c .split) (take (a .n) (a .queue .now)) (a .n) long (x .shallow) (x .splits) (a .low) (a .high) (x .low-is) (x .high-is) (x .some) (sym (c .before .before .before .is-low-first .ensures) ∙ c .before .before .if1 .left) in
-    record {
-      halves = rw (x .high-is .box (t .here), c .half-at2 .ensures .0) (t .halves);
-      of-level = of-level (asked (a .p)) (a .k) (a .c .split) (take (a .n) (a .queue .now)) (a .n) long (x .shallow) (x .splits) true (a .high) (x .high-is) (t .here);
-      one-more = omega (arith, c .half-at2 .ensures .0);
-      low-is = x .low-is;
-      high-is = c .half-at2 .ensures .1;
-    }
+    let o = c .before .before .if1 .left in
+    let here = is-there (halfAt (a .c .split) true (take (a .n) (a .queue .now))) (a .n) (a .high) (s .pre .high-is) (⊎-elim (λ h. omega (arith, h, o)) (λ h. h) (s .pre .some)) in
+    inr (omega (arith, o), record { here = here; word = refl; one-more = c .half-at2 .ensures .0; next-is = c .half-at2 .ensures .1; waits = refl })
 
 pub take-half-spec : {M : Type 1} → statement M
 take-half-spec =
     tie.close
     (tie.spec
-    is-low-first-requires
     add-half-at
     half-at-requires
     add-half-at-2

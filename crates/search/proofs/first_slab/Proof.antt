@@ -23,7 +23,7 @@ unpack-requires c κs = search needs
 slab-at-requires-2 : tie.Need-slab-at-requires-2
 slab-at-requires-2 c κs =
     let s = c .before .before .before .before in
-    let g = all-front (OfLevel (s .args .p .last) (s .args .k)) (s .args .queue .now) (s .args .n) 0 (s .pre .fits) (s .pre .grid) (omega (arith, c .before .before .if1 .left)) in
+    let g = all-front (OfLevel (s .args .k)) (s .args .queue .now) (s .args .n) 0 (s .pre .fits) (s .pre .grid) (omega (arith, c .before .before .if1 .left)) in
     (s .pre .ranged, (s .pre .shallow, rw (c .unpack .ensures) (g .grid .t)))
 
 returns-2 : tie.Need-returns-2
