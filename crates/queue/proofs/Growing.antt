@@ -26,7 +26,7 @@ use Rattle.queue.specs.declared.Next.the-variants.{Room, Level}
 use Rattle.queue.specs.All.{All, all-snoc, all-imp}
 use Rattle.queue.specs.Ascending.{Ascending, ascending-snoc}
 use Rattle.queue.specs.Walk.{put, same-after}
-use Rattle.queue.specs.Level.{OfLevel, Splits, Halves, halvingOf, boundOf, HalfIs, halfAt, halvesFrom, Takes, TakenIs, Grows, Placed, NextIs, Grown}
+use Rattle.queue.specs.Level.{OfLevel, Splits, Halvable, halvingOf, boundOf, HalfIs, halfAt, halvesFrom, Takes, TakenIs, Grows, Placed, NextIs, Grown}
 use Rattle.queue.proofs.Capping.{bound-past, inside-below}
 use Rattle.queue.proofs.Picking.{Steps, steps, all-taken}
 
@@ -44,7 +44,8 @@ none-below x y bound false false d e h = (ltb-false x bound d, ltb-false y bound
 
 -- ---- its invariant
 
--- what is written, and then the halves that are left, is the next level; the words below h and beyond the written ones are as they were
+-- what is written, and then the halves that are left, is the next level; no word that is written is greater than the two that are next; the words below h and
+-- beyond the written ones are as they were
 pub record Written (q : Query) (k : Depths) (p : Parameter) (n h : ℕ) (old new : List ℕ) (low high : Half) (m : ℕ) : Type 0 where
   pub room : m ≤ h
   pub len : length new ≡ length old
@@ -80,8 +81,8 @@ module _ (pair : Pair) (k : Depths) (split : Parameter) (n : ℕ) (old : List �
   abbrev whole : List Box
   whole = halvesFrom q k p (take n old) 0 0
 
-  pub halved : (new : List ℕ) → n ≤ length new → take n new ≡ take n old → Halves c new n
-  halved new l e = record {
+  pub halvable : (new : List ℕ) → n ≤ length new → take n new ≡ take n old → Halvable c new n
+  halvable new l e = record {
     bits = ap (λ (d : Halving). d .bits) is ∙ ap indexBits (sym same-split);
     one = ap (λ (d : Halving). d .one) is ∙ ap indexOne (sym same-split);
     fits = l;
@@ -98,7 +99,7 @@ module _ (pair : Pair) (k : Depths) (split : Parameter) (n : ℕ) (old : List �
     abbrev written : List ℕ
     written = take m (drop h new)
 
-    pub same-part : take n new ≡ take n old
+    same-part : take n new ≡ take n old
     same-part = sym (take-take n h new (grows .fits)) ∙ ap (λ (l : List ℕ). take n l) (w .source) ∙ take-take n h old (grows .fits)
 
     length-written : length written ≡ m
@@ -117,88 +118,90 @@ module _ (pair : Pair) (k : Depths) (split : Parameter) (n : ℕ) (old : List �
       beyond = w .beyond;
     }
 
-    -- one of the two is below the bound
-    module _ (some : (ltb (low .word) (c .bound) || ltb (high .word) (c .bound)) ≡ true) where
+    abbrev goesOn : Bool
+    goesOn = ltb (low .word) (c .bound) || ltb (high .word) (c .bound)
+
+    module _ (some : goesOn ≡ true) where
       one-below : (low .word < boundOf (pair .last) k) ⊎ (high .word < boundOf (pair .last) k)
       one-below = rw bound-is at (some-below (low .word) (high .word) (c .bound) _ _ refl refl some)
 
       pub takes : Takes c new n low high
       takes = record {
-        halves = halved new (omega (arith, w .len, grows .fits, grows .twice)) same-part;
+        halvable = halvable new (omega (arith, w .len, grows .fits, grows .twice)) same-part;
         low-is = rw same-part (w .low-is);
         high-is = rw same-part (w .high-is);
         some = ⊎-map (λ o. omega (arith, o, bound-past (pair .last) k (grows .last))) (λ o. omega (arith, o, bound-past (pair .last) k (grows .last))) one-below;
       }
 
-    module _ (some : (ltb (low .word) (c .bound) || ltb (high .word) (c .bound)) ≡ true) (r : Taken) (taken : TakenIs p (take n new) n low high r) where
-      step : Steps q k p (take n old) n short (grows .shallow) splits (grows .ascends) low high r
-      step = steps q k p (take n old) n short (grows .shallow) splits (grows .ascends) low high (w .low-is) (w .high-is) r (rw same-part at taken)
+      module _ (r : Taken) (taken : TakenIs p (take n new) n low high r) where
+        step : Steps q k p (take n old) n short (grows .shallow) splits (grows .ascends) low high r
+        step = steps q k p (take n old) n short (grows .shallow) splits (grows .ascends) low high (w .low-is) (w .high-is) r (rw same-part at taken)
 
-      pub in-grid : InGrid k (boxOf (r .word))
-      in-grid = step .of-level .grid
+        pub in-grid : InGrid k (boxOf (r .word))
+        in-grid = step .of-level .grid
 
-      pub one-more-taken : n + n - (r .low .at + r .high .at) < n + n - (low .at + high .at)
-      one-more-taken = omega (arith, step .one-more, step .low-is .at-le, step .high-is .at-le)
+        pub one-more-taken : n + n - (r .low .at + r .high .at) < n + n - (low .at + high .at)
+        one-more-taken = omega (arith, step .one-more, step .low-is .at-le, step .high-is .at-le)
 
-      below : r .word < boundOf (pair .last) k
-      below = ⊎-elim (λ o. omega (arith, step .least .0)) (λ o. omega (arith, step .least .1)) (one-below some)
+        below : r .word < boundOf (pair .last) k
+        below = ⊎-elim (λ o. omega (arith, step .least .0)) (λ o. omega (arith, step .least .1)) one-below
 
-      abbrev rest : List Box
-      rest = halvesFrom q k p (take n old) (r .low .at) (r .high .at)
+        abbrev rest : List Box
+        rest = halvesFrom q k p (take n old) (r .low .at) (r .high .at)
 
-      -- no word that is written is greater
-      not-greater : All (λ v. v ≤ r .word) written
-      not-greater = all-imp (λ v. (v ≤ low .word) × (v ≤ high .word)) (λ v. v ≤ r .word) (λ v x. step .one-of v (x .0) (x .1)) written (w .before)
+        -- no word that is written is greater
+        not-greater : All (λ v. v ≤ r .word) written
+        not-greater = all-imp (λ v. (v ≤ low .word) × (v ≤ high .word)) (λ v. v ≤ r .word) (λ v x. step .one-of v (x .0) (x .1)) written (w .before)
 
-      before-next : (ws : List ℕ) → All (λ v. v ≤ r .word) ws → All (λ v. (v ≤ r .low .word) × (v ≤ r .high .word)) ws
-      before-next = all-imp (λ v. v ≤ r .word) (λ v. (v ≤ r .low .word) × (v ≤ r .high .word)) (λ v o. (omega (arith, step .goes-up .0), omega (arith, step .goes-up .1)))
+        before-next : (ws : List ℕ) → All (λ v. v ≤ r .word) ws → All (λ v. (v ≤ r .low .word) × (v ≤ r .high .word)) ws
+        before-next = all-imp (λ v. v ≤ r .word) (λ v. (v ≤ r .low .word) × (v ≤ r .high .word)) (λ v o. (omega (arith, step .goes-up .0), omega (arith, step .goes-up .1)))
 
-      stays : inside q k (boxOf (r .word)) ≡ inFace q k (boxOf (r .word))
-      stays = inside-below q k (boxOf (r .word)) (fits-word (r .word)) (rw (pack-unpack (r .word) (step .of-level .fits)) below)
+        stays : inside q k (boxOf (r .word)) ≡ inFace q k (boxOf (r .word))
+        stays = inside-below q k (boxOf (r .word)) (fits-word (r .word)) (rw (pack-unpack (r .word) (step .of-level .fits)) below)
 
-      next : (b : Bool) → inFace q k (boxOf (r .word)) ≡ b → map boxOf written ++ cond b (boxOf (r .word) ∷ rest) rest ≡ whole
-      next b e = rw (← e, ← stays) (rw (step .halves) at (w .done))
+        next : (b : Bool) → inFace q k (boxOf (r .word)) ≡ b → map boxOf written ++ cond b (boxOf (r .word) ∷ rest) rest ≡ whole
+        next b e = rw (← e, ← stays) (rw (step .halves) at (w .done))
 
-      pub written-pass : inFace q k (boxOf (r .word)) ≡ false → Written q k p n h old new (r .low) (r .high) m
-      written-pass e = record {
-        room = w .room;
-        len = w .len;
-        source = w .source;
-        beyond = w .beyond;
-        grid = w .grid;
-        ascends = w .ascends;
-        before = before-next written not-greater;
-        low-is = step .low-is;
-        high-is = step .high-is;
-        done = next false e;
-      }
+        pub written-pass : inFace q k (boxOf (r .word)) ≡ false → Written q k p n h old new (r .low) (r .high) m
+        written-pass e = record {
+          room = w .room;
+          len = w .len;
+          source = w .source;
+          beyond = w .beyond;
+          grid = w .grid;
+          ascends = w .ascends;
+          before = before-next written not-greater;
+          low-is = step .low-is;
+          high-is = step .high-is;
+          done = next false e;
+        }
 
-      pub written-put : inFace q k (boxOf (r .word)) ≡ true → m < h → Written q k p n h old (set new (h + m) (r .word)) (r .low) (r .high) (m + 1)
-      written-put e l =
-          let long : m < length (drop h new) = rw (length-drop h new) (omega (arith, w .len, grows .twice)) in
-          let one-more : take (m + 1) (drop h (set new (h + m) (r .word))) ≡ written ++ (r .word ∷ []) = rw (drop-set-add h new m (r .word), add-one m) (take-suc-set (drop h new) m (r .word) long) in
-          record {
-            room = omega arith;
-            len = length-set new (h + m) (r .word) ∙ w .len;
-            source = take-set-le h new (h + m) (r .word) (omega arith) ∙ w .source;
-            beyond = rw (← add-assoc h m 1) (drop-set-lt (h + m + 1) new (h + m) (r .word) (omega arith) ∙ same-after (h + m) new old (w .beyond));
-            grid = rw one-more (all-snoc (OfLevel k) written (r .word) (w .grid) (step .of-level));
-            ascends = rw one-more (ascending-snoc written (r .word) (w .ascends) not-greater);
-            before = rw one-more (before-next (written ++ (r .word ∷ [])) (all-snoc (λ v. v ≤ r .word) written (r .word) not-greater (omega arith)));
-            low-is = step .low-is;
-            high-is = step .high-is;
-            done = rw (drop-set-add h new m (r .word)) (put m (drop h new) (r .word) _ long ∙ next true e);
-          }
+        pub written-put : inFace q k (boxOf (r .word)) ≡ true → m < h → Written q k p n h old (set new (h + m) (r .word)) (r .low) (r .high) (m + 1)
+        written-put e l =
+            let long : m < length (drop h new) = rw (length-drop h new) (omega (arith, w .len, grows .twice)) in
+            let one-more : take (m + 1) (drop h (set new (h + m) (r .word))) ≡ written ++ (r .word ∷ []) = rw (drop-set-add h new m (r .word), add-one m) (take-suc-set (drop h new) m (r .word) long) in
+            record {
+              room = omega arith;
+              len = length-set new (h + m) (r .word) ∙ w .len;
+              source = take-set-le h new (h + m) (r .word) (omega arith) ∙ w .source;
+              beyond = rw (← add-assoc h m 1) (drop-set-lt (h + m + 1) new (h + m) (r .word) (omega arith) ∙ same-after (h + m) new old (w .beyond));
+              grid = rw one-more (all-snoc (OfLevel k) written (r .word) (w .grid) (step .of-level));
+              ascends = rw one-more (ascending-snoc written (r .word) (w .ascends) not-greater);
+              before = rw one-more (before-next (written ++ (r .word ∷ [])) (all-snoc (λ v. v ≤ r .word) written (r .word) not-greater (omega arith)));
+              low-is = step .low-is;
+              high-is = step .high-is;
+              done = rw (drop-set-add h new m (r .word)) (put m (drop h new) (r .word) _ long ∙ next true e);
+            }
 
-      -- a half that has no room is one too many
-      no-room : inFace q k (boxOf (r .word)) ≡ true → m ≡ h → NextIs h k whole old new Room
-      no-room e l = (rw (← next true e) (omega (arith, length-part (boxOf (r .word)) rest)), rw l at (first-placed (boxOf (r .word) ∷ rest) (next true e)))
+        -- a half that has no room is one too many
+        no-room : inFace q k (boxOf (r .word)) ≡ true → m ≡ h → NextIs h k whole old new Room
+        no-room e l = (rw (← next true e) (omega (arith, length-part (boxOf (r .word)) rest)), rw l at (first-placed (boxOf (r .word) ∷ rest) (next true e)))
 
-      pub grown-room : inFace q k (boxOf (r .word)) ≡ true → m ≡ h → Grown pair k split n old new Room
-      unfolding halves
-      grown-room e l = record { next = rw same-split at (no-room e l); kept = w .source }
+        pub grown-room : inFace q k (boxOf (r .word)) ≡ true → m ≡ h → Grown pair k split n old new Room
+        unfolding halves
+        grown-room e l = record { next = rw same-split at (no-room e l); kept = w .source }
 
-    all-placed : (ltb (low .word) (c .bound) || ltb (high .word) (c .bound)) ≡ false → NextIs h k whole old new (Level m)
+    all-placed : goesOn ≡ false → NextIs h k whole old new (Level m)
     all-placed none =
         let far = rw bound-is at (none-below (low .word) (high .word) (c .bound) _ _ refl refl none) in
         record {
@@ -209,6 +212,6 @@ module _ (pair : Pair) (k : Depths) (split : Parameter) (n : ℕ) (old : List �
           beyond = w .beyond;
         }
 
-    pub grown-level : (ltb (low .word) (c .bound) || ltb (high .word) (c .bound)) ≡ false → Grown pair k split n old new (Level m)
+    pub grown-level : goesOn ≡ false → Grown pair k split n old new (Level m)
     unfolding halves
     grown-level none = record { next = rw same-split at (all-placed none); kept = w .source }

@@ -1,5 +1,5 @@
 -- The half that is taken is the first of the merge, where it is inside.
-use mathlib.Core.Path.{_≡_, refl, sym, ap, subst, _∙_}
+use mathlib.Core.Path.{_≡_, refl, sym, subst, _∙_}
 use mathlib.Core.Bool.{Bool, true, false, cond}
 use mathlib.Core.Logic.{_⊎_, inl, inr, ⊎-elim}
 use mathlib.Core.List.{List, [], _∷_}
@@ -12,7 +12,7 @@ use borrow.Author.Tests.{le-leb, lt-leb, ltb-true, ltb-false}
 use Rattle.rules.specs.declared.Parameter.{Parameter}
 use Rattle.rules.specs.Search.{Query, Box, Depths, stored, inside, notAfter}
 use Rattle.kernel.specs.Ranges.{Shallow}
-use Rattle.boxes.specs.Boxes.{Fits, boxOf, halfOf, halfBy, indexBits, indexOne}
+use Rattle.boxes.specs.Boxes.{Fits, boxOf, halfOf, halfBy}
 use Rattle.boxes.specs.Words.{same-order, half-order, unpack-pack, pack-unpack, fits-word, half-by}
 use Rattle.queue.specs.declared.Halving.{Halving}
 use Rattle.queue.specs.declared.Half.{Half}
@@ -20,7 +20,7 @@ use Rattle.queue.specs.declared.Taken.{Taken}
 use Rattle.queue.specs.All.{All, all-at, all-front, all-imp}
 use Rattle.queue.specs.Ascending.{Ascending, ascending-from}
 use Rattle.queue.specs.Grid.{fits-grid, stored-of-level}
-use Rattle.queue.specs.Level.{OfLevel, Splits, Halves, HalfIs, Took, TakenIs, halvesFrom, halfAt, past, boundOf}
+use Rattle.queue.specs.Level.{OfLevel, Splits, Halvable, HalfIs, Took, TakenIs, halvesFrom, halfAt, past, boundOf}
 use Rattle.queue.proofs.Capping.{outside-beyond}
 use Rattle.queue.proofs.Merging.{step-low, step-high, none-left}
 
@@ -33,7 +33,7 @@ below {a} {n} h = go (ltb a n) refl
 
 -- ---- a half at its place
 
-module _ (c : Halving) (high : Bool) (queue : List ℕ) (n i : ℕ) (x : Halves c queue n) (i-le : i ≤ n) where
+module _ (c : Halving) (high : Bool) (queue : List ℕ) (n i : ℕ) (x : Halvable c queue n) (i-le : i ≤ n) where
   abbrev half : ℕ → Box
   half = halfAt (c .split) high (take n queue)
 

@@ -44,7 +44,7 @@ abbrev pub halfAt : Parameter → Bool → List ℕ → ℕ → Box
 halfAt p high words i = halfOf p high (boxOf (getD words i 0))
 
 -- the first n words can be halved so
-pub record Halves (c : Halving) (queue : List ℕ) (n : ℕ) : Type 0 where
+pub record Halvable (c : Halving) (queue : List ℕ) (n : ℕ) : Type 0 where
   pub bits : c .bits ≡ indexBits (c .split)
   pub one : c .one ≡ indexOne (c .split)
   pub fits : n ≤ length queue
@@ -68,7 +68,7 @@ halvesFrom q k p words i j =
     merge (those (inside q k) (map (lowHalf p) (map boxOf (drop i words)))) (those (inside q k) (map (highHalf p) (map boxOf (drop j words))))
 
 pub record Takes (c : Halving) (queue : List ℕ) (n : ℕ) (low high : Half) : Type 0 where
-  pub halves : Halves c queue n
+  pub halvable : Halvable c queue n
   pub low-is : HalfIs (halfAt (c .split) false (take n queue)) n low
   pub high-is : HalfIs (halfAt (c .split) true (take n queue)) n high
   pub some : (low .word < past) ⊎ (high .word < past)

@@ -4,7 +4,7 @@ ghost use mathlib.Core.List.{_++_};
 ghost use Prim.Native.Nat.{_+_, _≤_};
 ghost use lib.ListN.{length, take, drop, replicate};
 ghost use Rattle.queue.specs.Cleared.{cleared};
-ghost use Rattle.queue.specs.Level.{halvingOf, Halves, HalfIs, halfAt, Takes, TakenIs, Grows, Grown};
+ghost use Rattle.queue.specs.Level.{halvingOf, Halvable, HalfIs, halfAt, Takes, TakenIs, Grows, Grown};
 use boxes::half_by;
 use boxes::index_bits;
 use boxes::index_one;
@@ -78,7 +78,7 @@ pub struct Half {
 
 // The low or the high half of the box at a place.
 fn half_at(c: Halving, high: bool, queue: &[u64], n: usize, at: usize) -> Half
-    requires { ⌜ Halves c (now queue) n × (at ≤ n) ⌝ }
+    requires { ⌜ Halvable c (now queue) n × (at ≤ n) ⌝ }
     ensures { λ r. ⌜ (r .at ≡ at) × HalfIs (halfAt (c .split) high (take n (now (queue .entry)))) n r ⌝ }
 {
     if at == n {

@@ -1,11 +1,10 @@
 -- The loop is that of `Growing`.
 use mathlib.Core.Path.{refl, sym, _∙_}
-use mathlib.Core.Bool.{true, false}
 use Prim.Native.Nat.{_+_, _-_}
 use native.Mathlib.Omega.{arith}
 use borrow.Author.Needs.{needs}
 use Rattle.kernel.specs.Kernel.{asked}
-use Rattle.queue.proofs.Growing.{Written, halved, written-none, takes, in-grid, one-more-taken, written-pass, written-put, grown-room, grown-level}
+use Rattle.queue.proofs.Growing.{Written, halvable, written-none, takes, in-grid, one-more-taken, written-pass, written-put, grown-room, grown-level}
 use Rattle.queue.proofs.grow.Statement.{statement}
 use Rattle.queue.proofs.grow.Tie as tie
 
@@ -23,14 +22,14 @@ half-at-requires c κs =
     let s = c .before .before .before in
     let a = s .args in
     let d = c .before .halving-of in
-    (halved (a .p) (a .k) (a .split) (a .n) (a .queue .now) (s .pre) (d .result) (d .ensures) (a .queue .now) (omega (arith, s .pre .fits, s .pre .twice)) refl, omega arith)
+    (halvable (a .p) (a .k) (a .split) (a .n) (a .queue .now) (s .pre) (d .result) (d .ensures) (a .queue .now) (omega (arith, s .pre .fits, s .pre .twice)) refl, omega arith)
 
 half-at-requires-2 : tie.Need-half-at-requires-2 Inv-loop μ-loop
 half-at-requires-2 c κs =
     let s = c .before .before .before .before .before in
     let a = s .args in
     let d = c .before .before .before .halving-of in
-    (halved (a .p) (a .k) (a .split) (a .n) (a .queue .now) (s .pre) (d .result) (d .ensures) (a .queue .now) (omega (arith, s .pre .fits, s .pre .twice)) refl, omega arith)
+    (halvable (a .p) (a .k) (a .split) (a .n) (a .queue .now) (s .pre) (d .result) (d .ensures) (a .queue .now) (omega (arith, s .pre .fits, s .pre .twice)) refl, omega arith)
 
 loop-holds : tie.Need-loop-holds Inv-loop μ-loop
 loop-holds c =

@@ -12,7 +12,7 @@ use Rattle.queue.proofs.take_half.Tie as tie
 add-half-at : tie.Need-add-half-at
 add-half-at c =
     let s = c .before .before .before .before .before in
-    omega (arith, s .pre .low-is .at-le, s .pre .halves .fits)
+    omega (arith, s .pre .low-is .at-le, s .pre .halvable .fits)
 
 half-at-requires : tie.Need-half-at-requires
 half-at-requires c κs =
@@ -20,12 +20,12 @@ half-at-requires c κs =
     let a = s .args in
     let o = c .before .if1 .taken in
     let here = is-there (halfAt (a .c .split) false (take (a .n) (a .queue .now))) (a .n) (a .low) (s .pre .low-is) (⊎-elim (λ h. h) (λ h. omega (arith, h, o)) (s .pre .some)) in
-    (s .pre .halves, omega (arith, here))
+    (s .pre .halvable, omega (arith, here))
 
 add-half-at-2 : tie.Need-add-half-at-2
 add-half-at-2 c =
     let s = c .before .before .before .before .before in
-    omega (arith, s .pre .high-is .at-le, s .pre .halves .fits)
+    omega (arith, s .pre .high-is .at-le, s .pre .halvable .fits)
 
 half-at-requires-2 : tie.Need-half-at-requires-2
 half-at-requires-2 c κs =
@@ -33,7 +33,7 @@ half-at-requires-2 c κs =
     let a = s .args in
     let o = c .before .if1 .left in
     let here = is-there (halfAt (a .c .split) true (take (a .n) (a .queue .now))) (a .n) (a .high) (s .pre .high-is) (⊎-elim (λ h. omega (arith, h, o)) (λ h. h) (s .pre .some)) in
-    (s .pre .halves, omega (arith, here))
+    (s .pre .halvable, omega (arith, here))
 
 returns : tie.Need-returns
 returns c =
