@@ -37,15 +37,15 @@ module _ (c : Halving) (high : Bool) (queue : List ℕ) (n i : ℕ) (x : Halvabl
   abbrev half : ℕ → Box
   half = halfAt (c .split) high (take n queue)
 
-  pub word-fits : (i ≡ n → ⊥) → getD queue i 0 < 2 ^ 60
-  word-fits ne = all-front (λ w. w < 2 ^ 60) queue n i (x .fits) (x .words) (omega arith)
+  pub word-fits : i < n → getD queue i 0 < 2 ^ 60
+  word-fits l = all-front (λ w. w < 2 ^ 60) queue n i (x .fits) (x .words) l
 
-  pub half-there : (i ≡ n → ⊥) → (word : ℕ) → word ≡ halfBy (c .bits) (c .one) high (getD queue i 0) → HalfIs half n (record { at = i; word = word })
-  half-there ne word is =
-      let as-stored : word ≡ stored (halfOf (c .split) high (boxOf (getD queue i 0))) = is ∙ rw (x .bits, x .one) (half-by (c .split) high (getD queue i 0) (word-fits ne)) in
-      record { at-le = i-le; word = λ h. rw (getD-take n queue i 0 h) as-stored; none = λ z. absurd (ne z) }
+  pub half-there : i < n → (word : ℕ) → word ≡ halfBy (c .bits) (c .one) high (getD queue i 0) → HalfIs half n (record { at = i; word = word })
+  half-there l word is =
+      let as-stored : word ≡ stored (halfOf (c .split) high (boxOf (getD queue i 0))) = is ∙ rw (x .bits, x .one) (half-by (c .split) high (getD queue i 0) (word-fits l)) in
+      record { at-le = i-le; word = λ h. rw (getD-take n queue i 0 h) as-stored; none = λ z. absurd (omega arith) }
 
-  pub half-none : i ≡ n → HalfIs half n (record { at = i; word = past })
+  pub half-none : n ≤ i → HalfIs half n (record { at = i; word = past })
   half-none e = record { at-le = i-le; word = λ h. absurd (omega arith); none = λ z. refl }
 
 -- the one whose word is not past is there

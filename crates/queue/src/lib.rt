@@ -81,13 +81,13 @@ fn half_at(c: Halving, high: bool, queue: &[u64], n: usize, at: usize) -> Half
     requires { ⌜ Halvable c (now queue) n × (at ≤ n) ⌝ }
     ensures { λ r. ⌜ (r .at ≡ at) × HalfIs (halfAt (c .split) high (take n (now (queue .entry)))) n r ⌝ }
 {
-    if at == n {
-        return Half { at, word: PAST };
+    if at < n {
+        return Half {
+            at,
+            word: half_by(c.bits, c.one, high, queue[at]),
+        };
     }
-    Half {
-        at,
-        word: half_by(c.bits, c.one, high, queue[at]),
-    }
+    Half { at, word: PAST }
 }
 
 // The half that goes first, and the two that are next then.
