@@ -1,16 +1,13 @@
 -- The loop that writes the next level behind the present one.
 use mathlib.Core.Path.{_≡_, refl, sym, ap, _∙_}
-use mathlib.Core.Bool.{Bool, true, false, cond, _||_}
-use mathlib.Core.Logic.{_⊎_, inl, inr, ⊎-elim, ⊎-map}
+use mathlib.Core.Bool.{Bool, true, false, cond}
 use mathlib.Core.List.{List, [], _∷_, _++_, map, append-nil}
-use Prim.Native.Nat.{ℕ, _+_, _-_, _^_, _≤_, _<_}
+use Prim.Native.Nat.{ℕ, _+_, _-_, _^_, _≤_, _<_, min}
 use native.Mathlib.Nat.{add-assoc}
 use native.Mathlib.Numerals.{add-one}
 use native.Mathlib.Omega.{arith}
 use lib.ListN.{length, set, take, drop, length-set, length-drop, length-append, length-map}
 use lib.Seq.{take-take, take-set-le, drop-set-add, drop-set-lt, length-take-le, take-at, take-suc-set}
-use lib.Dec.{ltb}
-use borrow.Author.Tests.{ltb-true, ltb-false}
 use Rattle.rules.specs.declared.Parameter.{Parameter}
 use Rattle.rules.specs.Search.{Query, Box, Depths, inside, halves}
 use Rattle.kernel.specs.declared.Pair.{Pair}
@@ -29,20 +26,6 @@ use Rattle.queue.specs.Walk.{put, same-after}
 use Rattle.queue.specs.Level.{OfLevel, Splits, Halvable, halvingOf, boundOf, HalfIs, halfAt, halvesFrom, Takes, TakenIs, Grows, Placed, NextIs, Grown}
 use Rattle.queue.proofs.Capping.{bound-past, inside-below}
 use Rattle.queue.proofs.Picking.{Steps, steps, all-taken}
-
--- ---- the test of the loop
-
-some-below : (x y bound : ℕ) (a b : Bool) → ltb x bound ≡ a → ltb y bound ≡ b → (a || b) ≡ true → (x < bound) ⊎ (y < bound)
-some-below x y bound true b d e h = inl (ltb-true x bound d)
-some-below x y bound false true d e h = inr (ltb-true y bound e)
-some-below x y bound false false d e h = absurd (let no : _≡_ {A = ℕ} 0 1 = cc in omega arith)
-
-none-below : (x y bound : ℕ) (a b : Bool) → ltb x bound ≡ a → ltb y bound ≡ b → (a || b) ≡ false → (bound ≤ x) × (bound ≤ y)
-none-below x y bound true b d e h = absurd (let no : _≡_ {A = ℕ} 0 1 = cc in omega arith)
-none-below x y bound false true d e h = absurd (let no : _≡_ {A = ℕ} 0 1 = cc in omega arith)
-none-below x y bound false false d e h = (ltb-false x bound d, ltb-false y bound e)
-
--- ---- its invariant
 
 -- what is written, and then the halves that are left, is the next level; no word that is written is greater than the two that are next; the words below h and
 -- beyond the written ones are as they were
@@ -118,51 +101,43 @@ module _ (pair : Pair) (k : Depths) (split : Parameter) (n : ℕ) (old : List �
       beyond = w .beyond;
     }
 
-    abbrev goesOn : Bool
-    goesOn = ltb (low .word) (c .bound) || ltb (high .word) (c .bound)
-
-    module _ (some : goesOn ≡ true) where
-      one-below : (low .word < boundOf (pair .last) k) ⊎ (high .word < boundOf (pair .last) k)
-      one-below = rw bound-is at (some-below (low .word) (high .word) (c .bound) _ _ refl refl some)
-
-      pub takes : Takes c new n low high
-      takes = record {
+    -- the lesser of the two words that are next
+    module _ (word : ℕ) (lesser : word ≡ min (low .word) (high .word)) where
+      pub takes : word < c .bound → Takes c new n low high
+      takes below = record {
         halvable = halvable new (omega (arith, w .len, grows .fits, grows .twice)) same-part;
         low-is = rw same-part (w .low-is);
         high-is = rw same-part (w .high-is);
-        some = ⊎-map (λ o. omega (arith, o, bound-past (pair .last) k (grows .last))) (λ o. omega (arith, o, bound-past (pair .last) k (grows .last))) one-below;
+        some = omega (arith, bound-is, bound-past (pair .last) k (grows .last));
       }
 
-      module _ (r : Taken) (taken : TakenIs p (take n new) n low high r) where
-        step : Steps q k p (take n old) n short (grows .shallow) splits (grows .ascends) low high r
-        step = steps q k p (take n old) n short (grows .shallow) splits (grows .ascends) low high (w .low-is) (w .high-is) r (rw same-part at taken)
+      module _ (below : word < c .bound) (r : Taken) (taken : TakenIs p (take n new) n low high r) where
+        step : Steps q k p (take n old) n short (grows .shallow) splits (grows .ascends) low high word r
+        step = steps q k p (take n old) n short (grows .shallow) splits (grows .ascends) low high (w .low-is) (w .high-is) word r lesser (rw same-part at taken)
 
-        pub in-grid : InGrid k (boxOf (r .word))
+        pub in-grid : InGrid k (boxOf word)
         in-grid = step .of-level .grid
 
         pub one-more-taken : n + n - (r .low .at + r .high .at) < n + n - (low .at + high .at)
         one-more-taken = omega (arith, step .one-more, step .low-is .at-le, step .high-is .at-le)
 
-        below : r .word < boundOf (pair .last) k
-        below = ⊎-elim (λ o. omega (arith, step .least .0)) (λ o. omega (arith, step .least .1)) one-below
-
         abbrev rest : List Box
         rest = halvesFrom q k p (take n old) (r .low .at) (r .high .at)
 
         -- no word that is written is greater
-        not-greater : All (λ v. v ≤ r .word) written
-        not-greater = all-imp (λ v. (v ≤ low .word) × (v ≤ high .word)) (λ v. v ≤ r .word) (λ v x. step .one-of v (x .0) (x .1)) written (w .before)
+        not-greater : All (λ v. v ≤ word) written
+        not-greater = all-imp (λ v. (v ≤ low .word) × (v ≤ high .word)) (λ v. v ≤ word) (λ v x. omega (arith, lesser, x .0, x .1)) written (w .before)
 
-        before-next : (ws : List ℕ) → All (λ v. v ≤ r .word) ws → All (λ v. (v ≤ r .low .word) × (v ≤ r .high .word)) ws
-        before-next = all-imp (λ v. v ≤ r .word) (λ v. (v ≤ r .low .word) × (v ≤ r .high .word)) (λ v o. (omega (arith, step .goes-up .0), omega (arith, step .goes-up .1)))
+        before-next : (ws : List ℕ) → All (λ v. v ≤ word) ws → All (λ v. (v ≤ r .low .word) × (v ≤ r .high .word)) ws
+        before-next = all-imp (λ v. v ≤ word) (λ v. (v ≤ r .low .word) × (v ≤ r .high .word)) (λ v o. (omega (arith, step .goes-up .0), omega (arith, step .goes-up .1)))
 
-        stays : inside q k (boxOf (r .word)) ≡ inFace q k (boxOf (r .word))
-        stays = inside-below q k (boxOf (r .word)) (fits-word (r .word)) (rw (pack-unpack (r .word) (step .of-level .fits)) below)
+        stays : inside q k (boxOf word) ≡ inFace q k (boxOf word)
+        stays = inside-below q k (boxOf word) (fits-word word) (rw (pack-unpack word (step .of-level .fits), ← bound-is) below)
 
-        next : (b : Bool) → inFace q k (boxOf (r .word)) ≡ b → map boxOf written ++ cond b (boxOf (r .word) ∷ rest) rest ≡ whole
+        next : (b : Bool) → inFace q k (boxOf word) ≡ b → map boxOf written ++ cond b (boxOf word ∷ rest) rest ≡ whole
         next b e = rw (← e, ← stays) (rw (step .halves) at (w .done))
 
-        pub written-pass : inFace q k (boxOf (r .word)) ≡ false → Written q k p n h old new (r .low) (r .high) m
+        pub written-pass : inFace q k (boxOf word) ≡ false → Written q k p n h old new (r .low) (r .high) m
         written-pass e = record {
           room = w .room;
           len = w .len;
@@ -176,42 +151,40 @@ module _ (pair : Pair) (k : Depths) (split : Parameter) (n : ℕ) (old : List �
           done = next false e;
         }
 
-        pub written-put : inFace q k (boxOf (r .word)) ≡ true → m < h → Written q k p n h old (set new (h + m) (r .word)) (r .low) (r .high) (m + 1)
+        pub written-put : inFace q k (boxOf word) ≡ true → m < h → Written q k p n h old (set new (h + m) word) (r .low) (r .high) (m + 1)
         written-put e l =
             let long : m < length (drop h new) = rw (length-drop h new) (omega (arith, w .len, grows .twice)) in
-            let one-more : take (m + 1) (drop h (set new (h + m) (r .word))) ≡ written ++ (r .word ∷ []) = rw (drop-set-add h new m (r .word), add-one m) (take-suc-set (drop h new) m (r .word) long) in
+            let one-more : take (m + 1) (drop h (set new (h + m) word)) ≡ written ++ (word ∷ []) = rw (drop-set-add h new m word, add-one m) (take-suc-set (drop h new) m word long) in
             record {
               room = omega arith;
-              len = length-set new (h + m) (r .word) ∙ w .len;
-              source = take-set-le h new (h + m) (r .word) (omega arith) ∙ w .source;
-              beyond = rw (← add-assoc h m 1) (drop-set-lt (h + m + 1) new (h + m) (r .word) (omega arith) ∙ same-after (h + m) new old (w .beyond));
-              grid = rw one-more (all-snoc (OfLevel k) written (r .word) (w .grid) (step .of-level));
-              ascends = rw one-more (ascending-snoc written (r .word) (w .ascends) not-greater);
-              before = rw one-more (before-next (written ++ (r .word ∷ [])) (all-snoc (λ v. v ≤ r .word) written (r .word) not-greater (omega arith)));
+              len = length-set new (h + m) word ∙ w .len;
+              source = take-set-le h new (h + m) word (omega arith) ∙ w .source;
+              beyond = rw (← add-assoc h m 1) (drop-set-lt (h + m + 1) new (h + m) word (omega arith) ∙ same-after (h + m) new old (w .beyond));
+              grid = rw one-more (all-snoc (OfLevel k) written word (w .grid) (step .of-level));
+              ascends = rw one-more (ascending-snoc written word (w .ascends) not-greater);
+              before = rw one-more (before-next (written ++ (word ∷ [])) (all-snoc (λ v. v ≤ word) written word not-greater (omega arith)));
               low-is = step .low-is;
               high-is = step .high-is;
-              done = rw (drop-set-add h new m (r .word)) (put m (drop h new) (r .word) _ long ∙ next true e);
+              done = rw (drop-set-add h new m word) (put m (drop h new) word _ long ∙ next true e);
             }
 
         -- a half that has no room is one too many
-        no-room : inFace q k (boxOf (r .word)) ≡ true → m ≡ h → NextIs h k whole old new Room
-        no-room e l = (rw (← next true e) (omega (arith, length-part (boxOf (r .word)) rest)), rw l at (first-placed (boxOf (r .word) ∷ rest) (next true e)))
+        no-room : inFace q k (boxOf word) ≡ true → m ≡ h → NextIs h k whole old new Room
+        no-room e l = (rw (← next true e) (omega (arith, length-part (boxOf word) rest)), rw l at (first-placed (boxOf word ∷ rest) (next true e)))
 
-        pub grown-room : inFace q k (boxOf (r .word)) ≡ true → m ≡ h → Grown pair k split n old new Room
+        pub grown-room : inFace q k (boxOf word) ≡ true → m ≡ h → Grown pair k split n old new Room
         unfolding halves
         grown-room e l = record { next = rw same-split at (no-room e l); kept = w .source }
 
-    all-placed : goesOn ≡ false → NextIs h k whole old new (Level m)
-    all-placed none =
-        let far = rw bound-is at (none-below (low .word) (high .word) (c .bound) _ _ refl refl none) in
-        record {
-          fits = w .room;
-          placed = sym (append-nil (map boxOf written)) ∙ rw (all-taken q k p (take n old) n short (grows .shallow) splits (grows .ascends) low high (w .low-is) (w .high-is) (far .0) (far .1)) at (w .done);
-          grid = w .grid;
-          ascends = w .ascends;
-          beyond = w .beyond;
-        }
+      all-placed : c .bound ≤ word → NextIs h k whole old new (Level m)
+      all-placed far = record {
+        fits = w .room;
+        placed = sym (append-nil (map boxOf written)) ∙ rw (all-taken q k p (take n old) n short (grows .shallow) splits (grows .ascends) low high (w .low-is) (w .high-is) (omega (arith, bound-is)) (omega (arith, bound-is))) at (w .done);
+        grid = w .grid;
+        ascends = w .ascends;
+        beyond = w .beyond;
+      }
 
-    pub grown-level : goesOn ≡ false → Grown pair k split n old new (Level m)
-    unfolding halves
-    grown-level none = record { next = rw same-split at (all-placed none); kept = w .source }
+      pub grown-level : c .bound ≤ word → Grown pair k split n old new (Level m)
+      unfolding halves
+      grown-level far = record { next = rw same-split at (all-placed far); kept = w .source }

@@ -3,7 +3,7 @@ use mathlib.Core.Path.{_≡_, refl, sym, subst, _∙_}
 use mathlib.Core.Bool.{Bool, true, false, cond}
 use mathlib.Core.Logic.{_⊎_, inl, inr, ⊎-elim}
 use mathlib.Core.List.{List, [], _∷_}
-use Prim.Native.Nat.{ℕ, _+_, _^_, _≤_, _<_}
+use Prim.Native.Nat.{ℕ, _+_, _^_, _≤_, _<_, min}
 use native.Mathlib.Omega.{arith}
 use lib.ListN.{length, getD, take, drop, length-drop, drop-of-length-le}
 use lib.Seq.{getD-take, getD-drop}
@@ -111,51 +111,47 @@ module _ (q : Query) (k : Depths) (p : Parameter) (ws : List ℕ) (n : ℕ) (lon
           (below (y .at-le))
 
   -- what a half that is taken is to the merge and to the two that are next
-  pub record Steps (low high : Half) (r : Taken) : Type 0 where
-    pub halves : from (low .at) (high .at) ≡ cond (inside q k (boxOf (r .word))) (boxOf (r .word) ∷ from (r .low .at) (r .high .at)) (from (r .low .at) (r .high .at))
-    pub of-level : OfLevel k (r .word)
+  pub record Steps (low high : Half) (word : ℕ) (r : Taken) : Type 0 where
+    pub halves : from (low .at) (high .at) ≡ cond (inside q k (boxOf word)) (boxOf word ∷ from (r .low .at) (r .high .at)) (from (r .low .at) (r .high .at))
+    pub of-level : OfLevel k word
     pub one-more : r .low .at + r .high .at ≡ low .at + high .at + 1
     pub low-is : HalfIs (halfAt p false ws) n (r .low)
     pub high-is : HalfIs (halfAt p true ws) n (r .high)
-    pub least : (r .word ≤ low .word) × (r .word ≤ high .word)
-    pub one-of : (w : ℕ) → w ≤ low .word → w ≤ high .word → w ≤ r .word
-    pub goes-up : (r .word ≤ r .low .word) × (r .word ≤ r .high .word)
+    pub goes-up : (word ≤ r .low .word) × (word ≤ r .high .word)
 
   module _ (low high : Half) (l : HalfIs (halfAt p false ws) n low) (g : HalfIs (halfAt p true ws) n high) where
     pub all-taken : boundOf (q .last) k ≤ low .word → boundOf (q .last) k ≤ high .word → from (low .at) (high .at) ≡ []
     all-taken d e = none-left q k p ws (low .at) (high .at) (all-outside false low l d) (all-outside true high g e)
 
-    steps-low : (r : Taken) → low .word ≤ high .word → Took (halfAt p false ws) n (r .word) low high (r .low) (r .high) → Steps low high r
-    steps-low r o t =
+    steps-low : (word : ℕ) (r : Taken) → word ≡ min (low .word) (high .word) → low .word ≤ high .word → Took (halfAt p false ws) n low high (r .low) (r .high) → Steps low high word r
+    steps-low word r e o t =
+        let is : word ≡ low .word = omega arith in
         let b = box false low l (t .here) in
         record {
-          halves = rw (t .word, box-is false low l (t .here), t .one-more, t .waits) (step-low q k p ws (low .at) (high .at) (omega (arith, t .here))
+          halves = rw (is, box-is false low l (t .here), t .one-more, t .waits) (step-low q k p ws (low .at) (high .at) (omega (arith, t .here))
               (all-imp (NotLess true (high .word)) (λ v. notAfter b (halfOf p true (boxOf v)) ≡ true)
               (λ v y. same-order b (halfOf p true (boxOf v)) (box-fits false low l (t .here)) (fits true v (y .1)) ∙ le-leb (stored b) (stored (halfOf p true (boxOf v))) (omega (arith, y .0, l .word (t .here)))) (drop (high .at) ws) (later true high g)));
-          of-level = rw (t .word) (of-level false low l (t .here));
+          of-level = rw is (of-level false low l (t .here));
           one-more = rw (t .waits, t .one-more) (omega arith);
           low-is = t .next-is;
           high-is = rw (t .waits) g;
-          least = (omega (arith, t .word), omega (arith, t .word));
-          one-of = λ w h i. omega (arith, t .word);
-          goes-up = (rw (t .word) (next-not-less false low l (t .here) (r .low) (t .one-more) (t .next-is)), rw (t .word, t .waits) o);
+          goes-up = (rw is (next-not-less false low l (t .here) (r .low) (t .one-more) (t .next-is)), rw (is, t .waits) o);
         }
 
-    steps-high : (r : Taken) → high .word < low .word → Took (halfAt p true ws) n (r .word) high low (r .high) (r .low) → Steps low high r
-    steps-high r o t =
+    steps-high : (word : ℕ) (r : Taken) → word ≡ min (low .word) (high .word) → high .word < low .word → Took (halfAt p true ws) n high low (r .high) (r .low) → Steps low high word r
+    steps-high word r e o t =
+        let is : word ≡ high .word = omega arith in
         let b = box true high g (t .here) in
         record {
-          halves = rw (t .word, box-is true high g (t .here), t .one-more, t .waits) (step-high q k p ws (low .at) (high .at) (omega (arith, t .here))
+          halves = rw (is, box-is true high g (t .here), t .one-more, t .waits) (step-high q k p ws (low .at) (high .at) (omega (arith, t .here))
               (all-imp (NotLess false (low .word)) (λ v. notAfter (halfOf p false (boxOf v)) b ≡ false)
               (λ v y. same-order (halfOf p false (boxOf v)) b (fits false v (y .1)) (box-fits true high g (t .here)) ∙ lt-leb (stored (halfOf p false (boxOf v))) (stored b) (omega (arith, y .0, g .word (t .here)))) (drop (low .at) ws) (later false low l)));
-          of-level = rw (t .word) (of-level true high g (t .here));
+          of-level = rw is (of-level true high g (t .here));
           one-more = rw (t .waits, t .one-more) (omega arith);
           low-is = rw (t .waits) l;
           high-is = t .next-is;
-          least = (omega (arith, t .word), omega (arith, t .word));
-          one-of = λ w h i. omega (arith, t .word);
-          goes-up = (rw (t .word, t .waits) (omega arith), rw (t .word) (next-not-less true high g (t .here) (r .high) (t .one-more) (t .next-is)));
+          goes-up = (rw (is, t .waits) (omega arith), rw is (next-not-less true high g (t .here) (r .high) (t .one-more) (t .next-is)));
         }
 
-    pub steps : (r : Taken) → TakenIs p ws n low high r → Steps low high r
-    steps r = ⊎-elim (λ t. steps-low r (t .0) (t .1)) (λ t. steps-high r (t .0) (t .1))
+    pub steps : (word : ℕ) (r : Taken) → word ≡ min (low .word) (high .word) → TakenIs p ws n low high r → Steps low high word r
+    steps word r e = ⊎-elim (λ t. steps-low word r e (t .0) (t .1)) (λ t. steps-high word r e (t .0) (t .1))

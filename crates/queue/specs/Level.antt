@@ -3,7 +3,7 @@ use mathlib.Core.Path.{_≡_}
 use mathlib.Core.Bool.{Bool, true, false}
 use mathlib.Core.Logic.{_⊎_}
 use mathlib.Core.List.{List, map}
-use Prim.Native.Nat.{ℕ, _+_, _-_, _*_, _/_, _^_, _≤_, _<_}
+use Prim.Native.Nat.{ℕ, _+_, _-_, _*_, _/_, _^_, _≤_, _<_, min}
 use lib.ListN.{length, getD, take, drop}
 use Rattle.rules.specs.declared.Parameter.{Parameter}
 use Rattle.rules.specs.Search.{Query, Box, Depths, stored, lowHalf, highHalf, inside, those, merge, halves}
@@ -71,12 +71,11 @@ pub record Takes (c : Halving) (queue : List ℕ) (n : ℕ) (low high : Half) : 
   pub halvable : Halvable c queue n
   pub low-is : HalfIs (halfAt (c .split) false (take n queue)) n low
   pub high-is : HalfIs (halfAt (c .split) true (take n queue)) n high
-  pub some : (low .word < past) ⊎ (high .word < past)
+  pub some : min (low .word) (high .word) < past
 
 -- one of the two is taken, the next of its list is at hand, and the other one waits
-pub record Took (half : ℕ → Box) (n taken : ℕ) (one other next rest : Half) : Type 0 where
+pub record Took (half : ℕ → Box) (n : ℕ) (one other next rest : Half) : Type 0 where
   pub here : one .at < n
-  pub word : taken ≡ one .word
   pub one-more : next .at ≡ one .at + 1
   pub next-is : HalfIs half n next
   pub waits : rest ≡ other
@@ -84,8 +83,8 @@ pub record Took (half : ℕ → Box) (n taken : ℕ) (one other next rest : Half
 -- the one with the lesser word, the low one of two equal words
 abbrev pub TakenIs : Parameter → List ℕ → ℕ → Half → Half → Taken → Type 0
 TakenIs split words n low high r =
-    ((low .word ≤ high .word) × Took (halfAt split false words) n (r .word) low high (r .low) (r .high))
-    ⊎ ((high .word < low .word) × Took (halfAt split true words) n (r .word) high low (r .high) (r .low))
+    ((low .word ≤ high .word) × Took (halfAt split false words) n low high (r .low) (r .high))
+    ⊎ ((high .word < low .word) × Took (halfAt split true words) n high low (r .high) (r .low))
 
 -- ---- the next level
 

@@ -1,7 +1,7 @@
 // The lent queue of H and H words: the present level stands from 0 on, the next one is written from H on.
 ghost use mathlib.Core.Path.{_≡_};
 ghost use mathlib.Core.List.{_++_};
-ghost use Prim.Native.Nat.{_+_, _≤_};
+ghost use Prim.Native.Nat.{_+_, _≤_, min};
 ghost use lib.ListN.{length, take, drop, replicate};
 ghost use Rattle.queue.specs.Cleared.{cleared};
 ghost use Rattle.queue.specs.Level.{halvingOf, Halvable, HalfIs, halfAt, Takes, TakenIs, Grows, Grown};
@@ -90,9 +90,8 @@ fn half_at(c: Halving, high: bool, queue: &[u64], n: usize, at: usize) -> Half
     Half { at, word: PAST }
 }
 
-// The half that goes first, and the two that are next then.
+// The two that are next when the half that goes first is taken.
 pub struct Taken {
-    pub word: u64,
     pub low: Half,
     pub high: Half,
 }
@@ -104,19 +103,17 @@ fn take_half(c: Halving, queue: &[u64], n: usize, low: Half, high: Half) -> Take
 {
     if low.word <= high.word {
         let next = half_at(c, false, queue, n, low.at + 1);
-        Taken {
-            word: low.word,
-            low: next,
-            high,
-        }
+        Taken { low: next, high }
     } else {
         let next = half_at(c, true, queue, n, high.at + 1);
-        Taken {
-            word: high.word,
-            low,
-            high: next,
-        }
+        Taken { low, high: next }
     }
+}
+
+fn lesser(a: u64, b: u64) -> u64
+    ensures { λ r. ⌜ r ≡ min a b ⌝ }
+{
+    if a <= b { a } else { b }
 }
 
 // The next level has no room, or so many boxes.
@@ -135,18 +132,21 @@ pub fn grow(p: Pair, k: Three, split: Parameter, queue: &mut [u64], n: usize) ->
     let mut low = half_at(c, false, queue, n, 0);
     let mut high = half_at(c, true, queue, n, 0);
     let mut m = 0;
-    while (low.word < c.bound) | (high.word < c.bound) {
+    loop {
+        let word = lesser(low.word, high.word);
+        if word >= c.bound {
+            return Next::Level(m);
+        }
         let next = take_half(c, queue, n, low, high);
         low = next.low;
         high = next.high;
-        let b = unpack(next.word);
+        let b = unpack(word);
         if gap::in_face(p, k, b) {
             if m == h {
                 return Next::Room;
             }
-            queue[h + m] = next.word;
+            queue[h + m] = word;
             m += 1;
         }
     }
-    Next::Level(m)
 }
