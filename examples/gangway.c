@@ -48,22 +48,6 @@ static void hull(int32_t height, int32_t positions[HULL * 9])
         positions[i] = metres[i] * METRE + (i % 3 == 2 ? height : 0);
 }
 
-/* What of each triangle a query is about. */
-struct parts {
-    const char *a, *b;
-};
-
-static struct parts parts_of(uint32_t query)
-{
-    static const char *const corner[] = {"corner 1", "corner 2", "corner 3"};
-    static const char *const edge[] = {"edge 12", "edge 23", "edge 31"};
-    if (query <= 3)
-        return (struct parts){corner[query - 1], "face"};
-    if (query <= 6)
-        return (struct parts){"face", corner[query - 4]};
-    return (struct parts){edge[(query - 7) / 3], edge[(query - 7) % 3]};
-}
-
 /* The step of this example. Sideways 1 cm is contact, in height 5 cm; a tolerance
  * of 2 cm; 10,000 boxes a query. */
 static uint32_t ask(uint32_t told[TAPERHIVE_TOLD])
@@ -79,24 +63,7 @@ static uint32_t ask(uint32_t told[TAPERHIVE_TOLD])
                             queue, QUEUE_WORDS, told, TAPERHIVE_TOLD);
 }
 
-/* The sum of all counts, told in two halves. */
-static uint64_t boxes_of(const uint32_t told[TAPERHIVE_TOLD])
-{
-    uint64_t high = told[TAPERHIVE_BODIES_COUNT + 1];
-    return high << 32 | told[TAPERHIVE_BODIES_COUNT];
-}
-
-/* The answer for a person, where there is a moment. */
-static void print_answer(const uint32_t told[TAPERHIVE_TOLD])
-{
-    struct parts of = parts_of(told[TAPERHIVE_BODIES_QUERY]);
-    print_move(told[TAPERHIVE_BODIES_T]);
-    printf("decided by triangle %u of the gangway (%s) and %u of the hull (%s)\n",
-           told[TAPERHIVE_BODIES_A], of.a, told[TAPERHIVE_BODIES_B], of.b);
-    print_nearness(told[TAPERHIVE_BODIES_WORD], told[TAPERHIVE_BODIES_EXCESS]);
-}
-
-/* The same answer in the library's own numbers, for a log. */
+/* An answer with a moment in the library's own numbers, for a log. */
 static void print_numbers(const uint32_t told[TAPERHIVE_TOLD])
 {
     static const char *const words[] = {"REFUSED", "MET", "CLEAR", "SPENT", "ROOM", "FLOOR"};
@@ -115,11 +82,8 @@ int main(void)
         printf("do not move: refused and not checked, number %u\n", refused);
         return 1;
     }
-    if (told[TAPERHIVE_BODIES_WORD] == TAPERHIVE_CLEAR) {
-        printf("move the whole step: clear, %" PRIu64 " boxes\n", boxes_of(told));
-        return 0;
-    }
-    print_answer(told);
-    print_numbers(told);
+    print_bodies(told);
+    if (told[TAPERHIVE_BODIES_WORD] != TAPERHIVE_CLEAR)
+        print_numbers(told);
     return 0;
 }

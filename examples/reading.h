@@ -2,6 +2,7 @@
 #ifndef READING_H
 #define READING_H
 
+#include <inttypes.h>
 #include <stdio.h>
 #include "taperhive.h"
 
@@ -50,6 +51,42 @@ static inline void print_nearness(uint32_t word, uint32_t excess)
     else
         printf("%s: %.3f mm beyond the separation then\n", ended_by(word),
                millimetres(excess));
+}
+
+/* What of each of two bodies' triangles a query is about. */
+struct parts {
+    const char *a, *b;
+};
+
+static inline struct parts parts_of(uint32_t query)
+{
+    static const char *const corner[] = {"corner 1", "corner 2", "corner 3"};
+    static const char *const edge[] = {"edge 12", "edge 23", "edge 31"};
+    if (query <= 3)
+        return (struct parts){corner[query - 1], "face"};
+    if (query <= 6)
+        return (struct parts){"face", corner[query - 4]};
+    return (struct parts){edge[(query - 7) / 3], edge[(query - 7) % 3]};
+}
+
+/* The sum of all counts, told in two halves. */
+static inline uint64_t boxes_of(const uint32_t told[TAPERHIVE_BODIES_TOLD])
+{
+    return (uint64_t)told[TAPERHIVE_BODIES_COUNT_HIGH] << 32 | told[TAPERHIVE_BODIES_COUNT];
+}
+
+/* What two bodies are answered: a gangway and a hull. */
+static inline void print_bodies(const uint32_t told[TAPERHIVE_BODIES_TOLD])
+{
+    if (told[TAPERHIVE_BODIES_WORD] == TAPERHIVE_CLEAR) {
+        printf("move the whole step: clear, %" PRIu64 " boxes\n", boxes_of(told));
+        return;
+    }
+    struct parts of = parts_of(told[TAPERHIVE_BODIES_QUERY]);
+    print_move(told[TAPERHIVE_BODIES_T]);
+    printf("decided by triangle %u of the gangway (%s) and %u of the hull (%s)\n",
+           told[TAPERHIVE_BODIES_A], of.a, told[TAPERHIVE_BODIES_B], of.b);
+    print_nearness(told[TAPERHIVE_BODIES_WORD], told[TAPERHIVE_BODIES_EXCESS]);
 }
 
 #endif

@@ -1,5 +1,6 @@
 /* Taperhive for a controller: pairs of a file, single pairs or two bodies of triangles, searched and
- * told in numbers; why a pair was safe at a moment and place; and query files, written.
+ * told in numbers, bodies with bounds kept beside them too; why a pair was safe at a moment and place;
+ * and query files, written.
  *
  * Build: tools/install PREFIX, then cc `pkg-config --cflags --libs taperhive`. README.md says more.
  *
@@ -95,7 +96,7 @@ enum {
     TAPERHIVE_REFUSAL_EDITION, TAPERHIVE_REFUSAL_COUNT, TAPERHIVE_REFUSAL_BACK,
     TAPERHIVE_REFUSAL_INDEX, TAPERHIVE_REFUSAL_SPACE,
     TAPERHIVE_REFUSAL_BODY = 21, TAPERHIVE_REFUSAL_CAP = 22, TAPERHIVE_REFUSAL_OUTSIDE = 23,
-    TAPERHIVE_REFUSAL_NOT_RULED_OUT = 24
+    TAPERHIVE_REFUSAL_NOT_RULED_OUT = 24, TAPERHIVE_REFUSAL_BOUNDS = 27
 };
 
 /* Kinds of pairs, and the flag that negates y of the second body's points. */
@@ -122,6 +123,10 @@ enum {
     TAPERHIVE_POINTS = 24, TAPERHIVE_TRIANGLE = 9
 };
 
+/* Triangles of a block, numbers of its bound, and those of all bounds of a body: at most 48. */
+enum { TAPERHIVE_BLOCK = 32, TAPERHIVE_BOUND = 6 };
+#define TAPERHIVE_BOUNDS_LEN(count) ((size_t)6 * (((count) + 31) / 32))
+
 /* Where taperhive_why tells what, its axes and its sides. */
 enum {
     TAPERHIVE_WHY_LEVEL, TAPERHIVE_WHY_DEPTH_T, TAPERHIVE_WHY_DEPTH_U, TAPERHIVE_WHY_DEPTH_V,
@@ -131,7 +136,7 @@ enum {
 enum { TAPERHIVE_X, TAPERHIVE_Y, TAPERHIVE_Z };
 enum { TAPERHIVE_BELOW, TAPERHIVE_ABOVE };
 
-/* Where taperhive_bodies tells what; the sum's high half stands behind its low half. */
+/* Where taperhive_bodies and taperhive_walk tell what; the sum's high half stands behind its low half. */
 enum {
     TAPERHIVE_BODIES_WORD, TAPERHIVE_BODIES_T, TAPERHIVE_BODIES_A, TAPERHIVE_BODIES_B,
     TAPERHIVE_BODIES_QUERY, TAPERHIVE_BODIES_EXCESS, TAPERHIVE_BODIES_COUNT,
@@ -213,6 +218,48 @@ uint32_t taperhive_bodies(uint8_t edition, uint32_t dx, uint32_t dy, uint32_t dz
                           size_t b_count, const int32_t *b_start, size_t b_start_len,
                           const int32_t *b_end, size_t b_end_len,
                           uint64_t *queue, size_t queue_len, uint32_t *told, size_t told_len);
+
+/* The bounds of a body, to be kept beside it for taperhive_walk: six numbers for every 32 triangles (0
+ * to 31, 32 to 63 and so on; the last block may be short), least x, y, z, then greatest x, y, z, over
+ * the corners of its triangles and a fourth one of each, corner 2 + corner 3 - corner 1, at the start
+ * and at the end of the step. Positions and edition are those of taperhive_bodies. A bound may be three
+ * times as far from the origin as a coordinate. Of bounds the first TAPERHIVE_BOUNDS_LEN(count) numbers
+ * are written. Returns 0, or why nothing lent was changed: 10 where the edition is not 1, 2 or 3; 21
+ * BODY where there are not 1 to 256 triangles, or some list has not nine numbers a triangle; 3 COORD
+ * where some coordinate is outside the edition's range; 14 where fewer numbers are lent for bounds. */
+uint32_t taperhive_bounds(uint8_t edition, size_t count, const int32_t *start, size_t start_len,
+                          const int32_t *end, size_t end_len, int32_t *bounds, size_t bounds_len);
+
+/* taperhive_bodies with the bounds of both bodies: what it tells is the same, number for number, the
+ * sum of the counts too, and what it leaves of the queue. Where the bounds of two blocks are further
+ * apart on some axis than that axis's separation, their triangles are passed over: that costs nothing,
+ * and counts one box for each query, as asking it would. So a far end of the hull costs next to
+ * nothing, and what is near costs what it did.
+ * Every call compares the bounds with the positions first. Returns 0, or why nothing was done and
+ * nothing lent was changed: 10, 21 and 3 to 7 as taperhive_bodies gives them; then 27 BOUNDS where a
+ * list of bounds is not exactly what taperhive_bounds writes for its body, and nothing behind it; then
+ * 14 where told has fewer than eight numbers. */
+uint32_t taperhive_walk(uint8_t edition, uint32_t dx, uint32_t dy, uint32_t dz,
+                        uint32_t tolerance, uint32_t budget,
+                        size_t a_count, const int32_t *a_start, size_t a_start_len,
+                        const int32_t *a_end, size_t a_end_len,
+                        const int32_t *a_bounds, size_t a_bounds_len,
+                        size_t b_count, const int32_t *b_start, size_t b_start_len,
+                        const int32_t *b_end, size_t b_end_len,
+                        const int32_t *b_bounds, size_t b_bounds_len,
+                        uint64_t *queue, size_t queue_len, uint32_t *told, size_t told_len);
+
+/* Triangle n of a body, counted from 0, replaced by another: corners are eighteen numbers, its nine at
+ * the start and its nine at the end. The bound of its block is worked out again. Nothing else is
+ * changed, and no other block is looked at: bounds that were exact are exact afterwards, and one of
+ * another block that was not stays as it was. Returns 0, or why nothing was changed: 10 where the
+ * edition is not 1, 2 or 3; 21 BODY as taperhive_bounds gives it, and where corners are not eighteen
+ * numbers; 13 INDEX where n is not below the count; 3 COORD where a coordinate of the new triangle, or
+ * of another one of its block, is outside the edition's range; 27 BOUNDS where bounds has not
+ * TAPERHIVE_BOUNDS_LEN(count) numbers. */
+uint32_t taperhive_replace(uint8_t edition, size_t count, int32_t *start, size_t start_len,
+                           int32_t *end, size_t end_len, int32_t *bounds, size_t bounds_len,
+                           size_t n, const int32_t *corners, size_t corners_len);
 
 /* A record from numbers, written from place `at` of out on, in edition 1, 2 or 3: 116, 128, 128 bytes,
  * and no other byte is changed. points and cap are those of taperhive_pair. Returns 0, or why nothing

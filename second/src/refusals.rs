@@ -24,6 +24,7 @@ pub enum Refusal {
     Cap = 22,
     Outside = 23,
     NotRuledOut = 24,
+    Bounds = 27,
 }
 
 impl Refusal {

@@ -16,6 +16,7 @@ enum { LENT = 0xA5, LONG = 1 << 20 };
 static uint8_t made[LONG], bytes[LONG];
 static uint64_t words[LONG];
 static uint32_t numbers[LONG];
+static int32_t starts[LONG], ends[LONG], bounds_a[LONG], bounds_b[LONG];
 
 /* A falling edge across one that stands askew; more numbers than a pair needs. */
 static const int32_t edges[LONG] = {-100, 5,   1000, 110, -7, 900, 3,  -100, 20, -9, 120, -30,
@@ -34,6 +35,10 @@ static void paint(void)
     memset(bytes, LENT, sizeof bytes);
     memset(words, LENT, sizeof words);
     memset(numbers, LENT, sizeof numbers);
+    memset(starts, LENT, sizeof starts);
+    memset(ends, LENT, sizeof ends);
+    memset(bounds_a, LENT, sizeof bounds_a);
+    memset(bounds_b, LENT, sizeof bounds_b);
 }
 
 /* From which element to which a buffer is not as it was lent, and a sum that its order tells. */
@@ -65,6 +70,10 @@ static void print_outcome(const char *name, uint32_t number, size_t told)
     print_changed("bytes", bytes, sizeof *bytes);
     print_changed("words", words, sizeof *words);
     print_changed("numbers", numbers, sizeof *numbers);
+    print_changed("starts", starts, sizeof *starts);
+    print_changed("ends", ends, sizeof *ends);
+    print_changed("A's bounds", bounds_a, sizeof *bounds_a);
+    print_changed("B's bounds", bounds_b, sizeof *bounds_b);
     printf("\n");
 }
 
@@ -172,6 +181,50 @@ static void walked(void)
     print_outcome("taperhive_bodies", CALL(taperhive_bodies), 8);
 }
 
+/* B with so many more triangles that it has two blocks; all of those are the origin. */
+enum { BLOCKS_2 = TAPERHIVE_BLOCK + 1, LENGTH_2 = TAPERHIVE_TRIANGLE * BLOCKS_2 };
+
+static void bounded(void)
+{
+    uint8_t edition = 3;
+    size_t count = BLOCKS_2, start_len = LENGTH_2, end_len = LENGTH_2, bounds_len = 13;
+    const int32_t *start = b0, *end = b1;
+    int32_t *bounds = bounds_b;
+    paint();
+    print_outcome("taperhive_bounds", CALL(taperhive_bounds), 0);
+}
+
+static void walked_by_bounds(void)
+{
+    uint8_t edition = 3;
+    uint32_t dx = 13, dy = 35, dz = 58, tolerance = 77, budget = 1000;
+    size_t a_count = 1, a_start_len = 9, a_end_len = 9, a_bounds_len = 6;
+    size_t b_count = BLOCKS_2, b_start_len = LENGTH_2, b_end_len = LENGTH_2, b_bounds_len = 12;
+    const int32_t *a_start = a0, *a_end = a1, *b_start = b0, *b_end = b1;
+    const int32_t *a_bounds = bounds_a, *b_bounds = bounds_b;
+    uint64_t *queue = words;
+    uint32_t *told = numbers;
+    size_t queue_len = 64, told_len = 10;
+    paint();
+    taperhive_bounds(3, 1, a0, 9, a1, 9, bounds_a, LONG);
+    taperhive_bounds(3, BLOCKS_2, b0, LENGTH_2, b1, LENGTH_2, bounds_b, LONG);
+    print_outcome("taperhive_walk", CALL(taperhive_walk), 8);
+}
+
+static void replaced(void)
+{
+    uint8_t edition = 3;
+    size_t count = BLOCKS_2, start_len = LENGTH_2, end_len = LENGTH_2, bounds_len = 12;
+    size_t n = BLOCKS_2 - 1, corners_len = 18;
+    int32_t *start = starts, *end = ends, *bounds = bounds_b;
+    const int32_t *corners = edges;
+    paint();
+    memcpy(starts, b0, sizeof *b0 * LENGTH_2);
+    memcpy(ends, b1, sizeof *b1 * LENGTH_2);
+    taperhive_bounds(3, BLOCKS_2, b0, LENGTH_2, b1, LENGTH_2, bounds_b, LONG);
+    print_outcome("taperhive_replace", CALL(taperhive_replace), 0);
+}
+
 /* With length 0 a pointer may be NULL: each function once with nothing lent. */
 static void nothing_lent(void)
 {
@@ -183,7 +236,10 @@ static void nothing_lent(void)
     printf(" %u", taperhive_answers(0, 0, 0, 0, 0, 0));
     printf(" %u", taperhive_pair(2, 1, 0, 0, 0, 0, 0, 16, 1, 0, 0, 0, 0, 0, 0, 0));
     printf(" %u", taperhive_why(0, 0, 0, 0, 0, 0, 0, 0, 0, 0));
-    printf(" %u\n", taperhive_bodies(2, 0, 0, 0, 16, 1, 0, 0, 0, 0, 0, 0, 0, 0, 0, 0, 0, 0, 0, 0));
+    printf(" %u", taperhive_bodies(2, 0, 0, 0, 16, 1, 0, 0, 0, 0, 0, 0, 0, 0, 0, 0, 0, 0, 0, 0));
+    printf(" %u", taperhive_bounds(2, 0, 0, 0, 0, 0, 0, 0));
+    printf(" %u", taperhive_walk(2, 0, 0, 0, 16, 1, 0, 0, 0, 0, 0, 0, 0, 0, 0, 0, 0, 0, 0, 0, 0, 0, 0, 0));
+    printf(" %u\n", taperhive_replace(2, 0, 0, 0, 0, 0, 0, 0, 0, 0, 0));
     paint();
     printf("no queue: %u", taperhive_pair(2, 2, 0, 5, 1, 2, 3, 16, 9, 0, edges, 24, 0, 0, numbers, 8));
     printf(", refused %u\n", numbers[TAPERHIVE_NUMBER]);
@@ -201,6 +257,9 @@ int main(void)
     paired();
     ruled_out();
     walked();
+    bounded();
+    walked_by_bounds();
+    replaced();
     nothing_lent();
     return 0;
 }

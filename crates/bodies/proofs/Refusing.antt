@@ -12,7 +12,9 @@ use Rattle.rules.specs.Bodies.{Body, isBody, face, askOf, queriesOf, bodyRefusa
 use Rattle.triangles.specs.InOrder.{none-refused, accepted}
 use Rattle.bodies.specs.Asking.{There}
 use Rattle.bodies.specs.Walk.{ToHear}
-use Rattle.bodies.specs.Check.{isRight, onePass, one-pass, Known, known}
+use Rattle.bounds.specs.Keeping.{Known, known, InRange}
+use Rattle.bounds.specs.Ranges.{in-range}
+use Rattle.bodies.specs.Check.{isRight, onePass, one-pass}
 
 -- two tests, each known by another name
 pub both : {x y u v : Bool} → x ≡ u → y ≡ v → (x && y) ≡ (u && v)
@@ -65,6 +67,22 @@ module _ (w : Terms) (a b : Body) (words : ℕ) where
   module _ (none : bodyRefusal w a b words ≡ 0) where
     pub known-bodies : Known a × Known b
     known-bodies = let h = and-eq-true-iff (isBody a) (isBody b) .0 (accepted w a b words none .0) in (known a (h .0), known b (h .1))
+
+    both-right : (isRight (w .edition) a && isRight (w .edition) b) ≡ true
+    both-right = by (isRight (w .edition) a && isRight (w .edition) b) refl
+      where
+        never : (n : ℕ) → orElse n 3 ≡ 0 → ⊥
+        never zero z = omega arith
+        never (suc n) z = omega arith
+
+        by : (t : Bool) → (isRight (w .edition) a && isRight (w .edition) b) ≡ t → (isRight (w .edition) a && isRight (w .edition) b) ≡ true
+        by true r = r
+        by false r = absurd (never (searchRefusal (askOf w a b 0 0 (face 0 3 4 5)) words) (sym (by-first (accepted w a b words none .0) (searchRefusal (askOf w a b 0 0 (face 0 3 4 5)) words) refl ∙ ap (λ (x : Bool). orElse (searchRefusal (askOf w a b 0 0 (face 0 3 4 5)) words) (cond x 0 3)) r) ∙ none))
+
+    pub in-range-bodies : InRange a × InRange b
+    in-range-bodies =
+        let h = and-eq-true-iff (isRight (w .edition) a) (isRight (w .edition) b) .0 both-right in
+        (in-range (w .edition) a (known-bodies .0) (h .0), in-range (w .edition) b (known-bodies .1) (h .1))
 
 pub all-to-hear : (w : Terms) (a b : Body) (queue : List ℕ) → bodyRefusal w a b (length queue) ≡ 0 → queue ≡ replicate (length queue) 0 → ToHear 983040 (queriesOf w a b) queue (Clear 0)
 unfolding sumOf capOf isOver

@@ -1,10 +1,12 @@
 -- Refused or answered: what comes back, what is told, and what is left of the queue. Assumes nothing.
-use Prim.Native.Nat.{ℕ, zero, suc, _≤_, _<_}
+use Prim.Native.Nat.{ℕ, zero, suc, _-_, _≤_, _<_}
 use mathlib.Core.Path.{_≡_, refl, sym, ap, _∙_}
 use mathlib.Core.Bool.{Bool, true, false, not, cond, _&&_}
 use mathlib.Core.List.{List, [], _∷_}
 use borrow.Author.Tests.{lt-ltb, le-ltb}
-use lib.ListN.{length, replicate}
+use native.Mathlib.Omega.{arith}
+use lib.IntN.{ℤ}
+use lib.ListN.{length, replicate, take, drop}
 use Rattle.rules.specs.declared.Told.{Told}
 use Rattle.rules.specs.declared.Terms.{Terms}
 use Rattle.rules.specs.declared.BodyAnswer.{BodyAnswer}
@@ -14,9 +16,10 @@ use Rattle.rules.specs.QueryFile.{isEdition}
 use Rattle.rules.specs.Refusals.{first, orElse}
 use Rattle.rules.specs.Search.{search as searched}
 use Rattle.rules.specs.Bodies.{Body, Asked, queriesOf, bodyRefusal, counted, isLess, sumOf, heard, capOf, capped, isOver, hearNext, hearAll, bodyUnless, bodySearch, queueAfterBodies}
+use Rattle.rules.specs.Bounds.{areSame, boundsOf, inexact, walkRefusal}
 use Rattle.answers.specs.Walk.{short}
-use Rattle.bodies.specs.Walk.{Heard}
-use Rattle.bodies.specs.Telling.{Answered, tellRefusal}
+use Rattle.bodies.specs.Walk.{Lent, Heard}
+use Rattle.bodies.specs.Telling.{Answered, toldRefusal}
 use Rattle.bodies.proofs.Refusing.{or-else}
 
 -- what is heard is no refusal
@@ -62,6 +65,10 @@ after-answer (Clear sum) queue h = refl
 after-answer (Least t i j query word excess sum) queue h = refl
 after-answer (Refused number) queue h = absurd h
 
+-- where no bounds are lent, nothing is asked of them
+pub none-lent : (m : ℕ) (s e l : List ℤ) → Lent m s e (take (0 - 0) (drop 0 l))
+none-lent m s e l h = absurd (omega arith)
+
 module _ (w : Terms) (a b : Body) (queue : List ℕ) where
   -- a refusal touches nothing
   pub refused : (n : ℕ) → n ≡ bodyRefusal w a b (length queue) → (n ≡ 0 → ⊥) → Answered w a b queue queue (Refused n)
@@ -82,32 +89,48 @@ module _ (w : Terms) (a b : Body) (queue : List ℕ) where
         left = h .kept ∙ z ∙ sym (ap (λ (x : BodyAnswer). queueAfterBodies x queue) s ∙ after-answer _ queue (hearAll-answers (length queue) (Clear 0) (queriesOf w a b) tt));
       }
 
-  -- ---- the number that is told
+  -- ---- with bounds
 
-  module _ (out : List ℕ) where
-    abbrev behind : ℕ
-    behind = orElse (bodyRefusal w a b (length queue)) (first (short out 8 ∷ []))
+  module _ (ofA ofB : List ℤ) where
+    abbrev exact : Bool
+    exact = areSame ofA (boundsOf a) && areSame ofB (boundsOf b)
 
-    by-edition : (t : Bool) → isEdition (w .edition) ≡ t → tellRefusal w a b (length queue) out ≡ cond t behind 10
-    unfolding tellRefusal first
-    by-edition true f = ap (λ (t : Bool). orElse (cond (not t) 10 0) behind) f
-    by-edition false f = ap (λ (t : Bool). orElse (cond (not t) 10 0) behind) f
+    -- 21 and the queries' own come first
+    pub walk-refused : (n : ℕ) → n ≡ bodyRefusal w a b (length queue) → (n ≡ 0 → ⊥) → n ≡ walkRefusal w a ofA b ofB (length queue)
+    unfolding walkRefusal
+    walk-refused n e h = sym (ap (λ (m : ℕ). orElse m (first (inexact a ofA b ofB ∷ []))) (sym e) ∙ or-else n _ h)
 
-    pub tell-none : isEdition (w .edition) ≡ false → 10 ≡ tellRefusal w a b (length queue) out
-    tell-none f = sym (by-edition false f)
+    pub walk-by : 0 ≡ bodyRefusal w a b (length queue) → (t : Bool) → exact ≡ t → cond t 0 27 ≡ walkRefusal w a ofA b ofB (length queue)
+    unfolding walkRefusal first
+    walk-by e true f = sym (ap (λ (m : ℕ). orElse m (first (inexact a ofA b ofB ∷ []))) (sym e) ∙ ap (λ (t : Bool). cond (not t) 27 0) f)
+    walk-by e false f = sym (ap (λ (m : ℕ). orElse m (first (inexact a ofA b ofB ∷ []))) (sym e) ∙ ap (λ (t : Bool). cond (not t) 27 0) f)
 
-    module _ (f : isEdition (w .edition) ≡ true) where
-      pub tell-refused : (n : ℕ) → n ≡ bodyRefusal w a b (length queue) → (n ≡ 0 → ⊥) → n ≡ tellRefusal w a b (length queue) out
-      tell-refused n e h = sym (by-edition true f ∙ ap (λ (m : ℕ). orElse m (first (short out 8 ∷ []))) (sym e) ∙ or-else n _ h)
+-- ---- the number that is told
 
-      module _ (e : 0 ≡ bodyRefusal w a b (length queue)) where
-        accepts : tellRefusal w a b (length queue) out ≡ first (short out 8 ∷ [])
-        accepts = by-edition true f ∙ ap (λ (m : ℕ). orElse m (first (short out 8 ∷ []))) (sym e)
+module _ (edition own : ℕ) (out : List ℕ) where
+  abbrev behind : ℕ
+  behind = orElse own (first (short out 8 ∷ []))
 
-        pub tell-short : length out < 8 → 14 ≡ tellRefusal w a b (length queue) out
-        unfolding first
-        tell-short l = sym (accepts ∙ rw (lt-ltb (length out) 8 l))
+  by-edition : (t : Bool) → isEdition edition ≡ t → toldRefusal edition own out ≡ cond t behind 10
+  unfolding toldRefusal first
+  by-edition true f = ap (λ (t : Bool). orElse (cond (not t) 10 0) behind) f
+  by-edition false f = ap (λ (t : Bool). orElse (cond (not t) 10 0) behind) f
 
-        pub tell-good : 8 ≤ length out → 0 ≡ tellRefusal w a b (length queue) out
-        unfolding first
-        tell-good l = sym (accepts ∙ rw (le-ltb (length out) 8 l))
+  pub tell-none : isEdition edition ≡ false → 10 ≡ toldRefusal edition own out
+  tell-none f = sym (by-edition false f)
+
+  module _ (f : isEdition edition ≡ true) where
+    pub tell-refused : (n : ℕ) → n ≡ own → (n ≡ 0 → ⊥) → n ≡ toldRefusal edition own out
+    tell-refused n e h = sym (by-edition true f ∙ ap (λ (m : ℕ). orElse m (first (short out 8 ∷ []))) (sym e) ∙ or-else n _ h)
+
+    module _ (e : 0 ≡ own) where
+      accepts : toldRefusal edition own out ≡ first (short out 8 ∷ [])
+      accepts = by-edition true f ∙ ap (λ (m : ℕ). orElse m (first (short out 8 ∷ []))) (sym e)
+
+      pub tell-short : length out < 8 → 14 ≡ toldRefusal edition own out
+      unfolding first
+      tell-short l = sym (accepts ∙ rw (lt-ltb (length out) 8 l))
+
+      pub tell-good : 8 ≤ length out → 0 ≡ toldRefusal edition own out
+      unfolding first
+      tell-good l = sym (accepts ∙ rw (le-ltb (length out) 8 l))

@@ -6,7 +6,7 @@
 use Prim.Native.Nat.{ℕ, zero, suc, _+_, _-_, _≤_, _<_}
 use mathlib.Core.Path.{_≡_, refl, sym, ap, subst, _∙_}
 use mathlib.Core.Bool.{Bool, true, false, cond}
-use mathlib.Core.List.{List, [], _∷_, _++_}
+use mathlib.Core.List.{List, [], _∷_, _++_, append-assoc}
 use native.Mathlib.Omega.{arith}
 use lib.IntN.{ℤ}
 use lib.ListN.{length, drop, replicate}
@@ -22,7 +22,7 @@ use Rattle.rules.specs.Bodies.{Body, Asked, face, fifteen, askOf, askedFrom, ea
 use Rattle.triangles.specs.Members.{All, parts}
 use Rattle.triangles.specs.InOrder.{hearAll-append}
 use Rattle.promise.proofs.Bodies.Promised.{caps-in-step}
-use Rattle.bodies.specs.Asking.{body}
+use Rattle.bounds.specs.Reach.{body}
 use Rattle.bodies.specs.Counted.{hear-over}
 use Rattle.bodies.specs.Walk.{positions, SumRoom, Grows, ToHear, Heard, queryAlone, rowQueries}
 
@@ -112,6 +112,19 @@ module _ (w : Terms) (a b : Body) (i j : ℕ) where
 
 -- ---- what is left of lists one after the other
 
+each-add : (f : ℕ → List Asked) (i a b : ℕ) → eachFrom i (a + b) f ≡ eachFrom i a f ++ eachFrom (i + a) b f
+unfolding eachFrom
+each-add f i zero b =
+    let e : 0 + b ≡ b = omega arith in
+    let at : i ≡ i + 0 = omega arith in
+    ap (λ (x : ℕ). eachFrom i x f) e ∙ ap (λ (x : ℕ). eachFrom x b f) at
+each-add f i (suc a) b =
+    let e : suc a + b ≡ suc (a + b) = omega arith in
+    let at : i + 1 + a ≡ i + suc a = omega arith in
+    ap (λ (x : ℕ). eachFrom i x f) e
+    ∙ ap (λ (l : List Asked). f i ++ l) (each-add f (i + 1) a b ∙ ap (λ (x : ℕ). eachFrom (i + 1) a f ++ eachFrom x b f) at)
+    ∙ sym (append-assoc (f i) (eachFrom (i + 1) a f) (eachFrom (i + suc a) b f))
+
 module _ (n : ℕ) (f : ℕ → List Asked) where
   abbrev pub eachLeft : ℕ → List Asked
   eachLeft i = eachFrom i (n - i) f
@@ -126,6 +139,13 @@ module _ (n : ℕ) (f : ℕ → List Asked) where
   pub each-end : (i : ℕ) → i ≡ n → eachLeft i ≡ []
   unfolding eachFrom
   each-end i e = let z : n - i ≡ 0 = omega (arith, e) in ap (λ (x : ℕ). eachFrom i x f) z
+
+-- up to another
+pub each-stretch : (n : ℕ) (f : ℕ → List Asked) (from near : ℕ) → from ≤ near → near ≤ n → eachLeft n f from ≡ eachFrom from (near - from) f ++ eachLeft n f near
+each-stretch n f from near l m =
+    let e : n - from ≡ (near - from) + (n - near) = omega arith in
+    let at : from + (near - from) ≡ near = omega arith in
+    ap (λ (x : ℕ). eachFrom from x f) e ∙ each-add f from (near - from) (n - near) ∙ ap (λ (x : ℕ). eachFrom from (near - from) f ++ eachFrom x (n - near) f) at
 
 -- ---- how many triangles there are has no part in a query
 

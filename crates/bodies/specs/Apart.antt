@@ -3,52 +3,31 @@
 use mathlib.Core.Path.{_≡_, refl, sym, ap, _∙_, subst}
 use mathlib.Core.Bool.{false, cond}
 use mathlib.Core.List.{List, [], _∷_}
-use Prim.Native.Nat.{ℕ, zero, suc, _+_, _-_, _*_, _≤_, _<_}
+use Prim.Native.Nat.{ℕ, zero, suc, _+_, _*_, _<_}
 use native.Mathlib.Omega.{arith}
 use lib.IntN.{ℤ, pos, _-ℤ_}
-use lib.ListN.{length, getD}
-use lib.Dec.{ltb, lit<}
+use lib.ListN.{getD}
+use lib.Dec.{ltb}
 use Rattle.whole.specs.Ring.{var, num, _:-_, ring}
 use Rattle.rules.specs.declared.Record.{Record}
-use Rattle.rules.specs.declared.Answer.the-variants.{Clear}
 use Rattle.rules.specs.declared.Terms.{Terms}
 use Rattle.rules.specs.declared.Ask.{Ask}
 use Rattle.rules.specs.declared.Axis.{Axis}
 use Rattle.rules.specs.declared.Axis.the-variants.{X, Y, Z}
-use Rattle.rules.specs.Gap.{place, sided}
-use Rattle.rules.specs.Refusals.{searchRefusal}
-use Rattle.rules.specs.Search.{query, origin, least, greatest, overCorners, survives, search}
-use Rattle.rules.specs.Bodies.{face, edges, fifteen, cornerPlace, askOf, askedFrom, pairQueries, capped}
+use Rattle.rules.specs.Gap.{place}
+use Rattle.rules.specs.Bodies.{face, edges, cornerPlace, askOf}
 use Rattle.kernel.specs.declared.Kernel.{Kernel}
 use Rattle.gap.specs.declared.span.Span.{Span}
 use Rattle.gap.specs.Corners.{meets}
-use Rattle.gap.specs.Cube.{squareOf, cubeOf, wholeCube, cubeMost}
-use Rattle.gap.specs.Steps.{SmallSpan}
-use Rattle.gap.specs.Prepared.{axisOf, misses-any}
-use Rattle.search.specs.Whole.{search-clear}
-use Rattle.triangles.specs.Members.{All, askAt}
-use Rattle.triangles.specs.InOrder.{capped-none}
-use Rattle.bodies.specs.declared.apart.Reach.{Reach}
-use Rattle.bodies.specs.Asking.{body}
+use Rattle.gap.specs.Cube.{squareOf, wholeCube}
+use Rattle.gap.specs.Prepared.{axisOf}
+use Rattle.triangles.specs.Members.{askAt}
+use Rattle.bounds.specs.declared.reach.Reach.{Reach}
+use Rattle.bounds.specs.Reach.{triangleAt, reachAt, onReach, ReachIs}
 use Rattle.bodies.specs.Walk.{positions}
 use Rattle.bodies.specs.Between.{In, Holds, Further, triangle-holds, holds-first, holds-second, face-between, edges-between, both-between, misses, turned}
 
 -- ---- a triangle of a body on an axis
-
--- a triangle on one axis as a kernel of its own, from the coordinate at a place: its cube is what it reaches over both moments
-abbrev pub triangleAt : List ℤ → List ℤ → ℕ → Kernel
-triangleAt s e at =
-    record {
-      a0 = getD s at (pos 0) -ℤ pos 0;
-      b0 = getD s (at + 3) (pos 0) -ℤ getD s at (pos 0);
-      c0 = getD s (at + 6) (pos 0) -ℤ getD s at (pos 0);
-      a1 = getD e at (pos 0) -ℤ pos 0;
-      b1 = getD e (at + 3) (pos 0) -ℤ getD e at (pos 0);
-      c1 = getD e (at + 6) (pos 0) -ℤ getD e at (pos 0);
-    }
-
-abbrev pub reachAt : List ℤ → List ℤ → ℕ → Span
-reachAt s e at = cubeOf (triangleAt s e at)
 
 first-is : (x : ℤ) → x -ℤ pos 0 ≡ x
 first-is x = ring (x ∷ []) (var 0 :- num (pos 0)) (var 0) tt
@@ -64,33 +43,6 @@ end-holds s e at =
     holds-second (squareOf (triangleAt s e at .a0) (triangleAt s e at .b0) (triangleAt s e at .c0)) (squareOf (triangleAt s e at .a1) (triangleAt s e at .b1) (triangleAt s e at .c1))
     (subst (λ (x : ℤ). Holds (squareOf x (triangleAt s e at .b1) (triangleAt s e at .c1)) (getD e at (pos 0)) (getD e (at + 3) (pos 0)) (getD e (at + 6) (pos 0))) (sym (first-is (getD e at (pos 0))))
     (triangle-holds (getD e at (pos 0)) (getD e (at + 3) (pos 0)) (getD e (at + 6) (pos 0))))
-
--- triangle i is there at both moments
-abbrev pub HasTriangle : List ℤ → List ℤ → ℕ → Type 0
-HasTriangle s e i = (9 * i + 9 ≤ length s) × (9 * i + 9 ≤ length e)
-
--- on each axis
-abbrev pub onReach : Reach → Axis → Span
-onReach r X = r .x
-onReach r Y = r .y
-onReach r Z = r .z
-
-pub record WideReach (r : Reach) : Type 0 where
-  pub x : SmallSpan cubeMost (r .x)
-  pub y : SmallSpan cubeMost (r .y)
-  pub z : SmallSpan cubeMost (r .z)
-
-pub record ReachIs (s e : List ℤ) (i : ℕ) (r : Reach) : Type 0 where
-  pub is : (axis : Axis) → onReach r axis ≡ reachAt s e (9 * i + place axis)
-  pub wide : WideReach r
-
-pub reach-is : {s e : List ℤ} {i : ℕ} {r : Reach} → r .x ≡ reachAt s e (9 * i + 0) → r .y ≡ reachAt s e (9 * i + 1) → r .z ≡ reachAt s e (9 * i + 2) → WideReach r → ReachIs s e i r
-reach-is {s} {e} {i} {r} x y z wide = record { is = each; wide = wide }
-  where
-    each : (axis : Axis) → onReach r axis ≡ reachAt s e (9 * i + place axis)
-    each X = x
-    each Y = y
-    each Z = z
 
 abbrev pub separationIn : Terms → Axis → ℕ
 separationIn w X = w .dx
@@ -108,27 +60,6 @@ pub data DistantFrom (w : Terms) (r : Reach) (b0 b1 : List ℤ) (j : ℕ) : Type
 pub by-reach : {w : Terms} {a0 a1 b0 b1 : List ℤ} {i j : ℕ} {r : Reach} → ReachIs a0 a1 i r → DistantFrom w r b0 b1 j → Distant w a0 a1 b0 b1 i j
 by-reach {w} {a0} {a1} {b0} {b1} {i} {j} h (distant-from axis f) = distant axis (subst (λ (P : Span). Further P (reachAt b0 b1 (9 * j + place axis)) (separationIn w axis)) (h .is axis) f)
 
--- m triangles of B from one on are so apart
-abbrev pub AllApart : Terms → Reach → List ℤ → List ℤ → ℕ → ℕ → Type 0
-AllApart w r b0 b1 from zero = Unit
-AllApart w r b0 b1 from (suc m) = AllApart w r b0 b1 from m × DistantFrom w r b0 b1 (from + m)
-
--- every one from one on, before another
-pub record Passed (w : Terms) (r : Reach) (b0 b1 : List ℤ) (from n near : ℕ) : Type 0 where
-  pub later : from ≤ near
-  pub most : near ≤ n
-  pub apart : AllApart w r b0 b1 from (near - from)
-
-module _ {w : Terms} {r : Reach} {b0 b1 : List ℤ} {from n : ℕ} where
-  pub passed-none : from ≤ n → Passed w r b0 b1 from n from
-  passed-none l = let e : 0 ≡ from - from = omega arith in record { later = omega arith; most = l; apart = subst (AllApart w r b0 b1 from) e tt }
-
-  pub passed-more : {near : ℕ} → Passed w r b0 b1 from n near → near < n → DistantFrom w r b0 b1 near → Passed w r b0 b1 from n (near + 1)
-  passed-more {near} p l d =
-      let here : near ≡ from + (near - from) = omega (arith, p .later) in
-      let more : suc (near - from) ≡ near + 1 - from = omega (arith, p .later) in
-      record { later = omega (arith, p .later); most = omega arith; apart = subst (AllApart w r b0 b1 from) more (p .apart, subst (DistantFrom w r b0 b1) here d) }
-
 -- ---- the fifteen queries
 
 -- where a corner's coordinate on an axis stands
@@ -138,7 +69,7 @@ off Y at = at + 1
 off Z at = at + 2
 
 module _ (w : Terms) (a0 a1 b0 b1 : List ℤ) (i j : ℕ) (axis : Axis) where
-  abbrev ask : Ask → Record
+  abbrev pub ask : Ask → Record
   ask k = askOf w (positions a0 a1) (positions b0 b1) i j k
 
   abbrev S : ℕ → ℤ
@@ -203,7 +134,7 @@ module _ (w : Terms) (a0 a1 b0 b1 : List ℤ) (i j : ℕ) (axis : Axis) (h : Cor
   abbrev SB : Span
   SB = B w a0 a1 b0 b1 i j axis
 
-  abbrev Misses : Ask → Type 0
+  abbrev pub Misses : Ask → Type 0
   Misses k = meets (axisOf (ask w a0 a1 b0 b1 i j axis k) axis) wholeCube d ≡ false
 
   face-misses : (P Q : Span) (p q r s : ℕ) → In P (St p) → In P (En p) → Holds Q (St q) (St r) (St s) → Holds Q (En q) (En r) (En s) → Further P Q d → Misses (face p q r s)
@@ -277,45 +208,3 @@ corners w a0 a1 b0 b1 i j axis =
       b-start = moved axis b0 j (reachAt b0 b1 (9 * j + place axis)) (start-holds b0 b1 (9 * j + place axis));
       b-end = moved axis b1 j (reachAt b0 b1 (9 * j + place axis)) (end-holds b0 b1 (9 * j + place axis));
     }
-
--- ---- all are clear
-
--- each of a list of queries
-abbrev Each : (Ask → Type 0) → List Ask → Type 0
-Each P [] = Unit
-Each P (k ∷ ks) = P k × Each P ks
-
--- whatever the cap is: the whole cube has no part in it
-abbrev pub ClearUpTo : ℕ → Record → Type 0
-ClearUpTo words r = (cap : ℕ) → cap ≤ 1048576 → search (capped cap r) words ≡ Clear 1
-
-capped-lost : (cap words : ℕ) (r : Record) → survives (query (capped cap r) words) origin origin ≡ survives (query r words) origin origin
-unfolding capped sided survives least greatest overCorners
-capped-lost cap words r = refl
-
-capped-clear : (r : Record) (words : ℕ) → searchRefusal r words ≡ 0 → survives (query r words) origin origin ≡ false → ClearUpTo words r
-capped-clear r words e f cap h = search-clear (capped cap r) words (capped-none cap words r h e) (capped-lost cap words r ∙ f)
-
-module _ (w : Terms) (a0 a1 b0 b1 : List ℤ) (i j words : ℕ) where
-  one-clear : (axis : Axis) (k : Ask) → Misses w a0 a1 b0 b1 i j axis (corners w a0 a1 b0 b1 i j axis) (separationIn w axis) k → searchRefusal (ask w a0 a1 b0 b1 i j axis k) words ≡ 0
-      → ClearUpTo words (ask w a0 a1 b0 b1 i j axis k)
-  unfolding askOf
-  one-clear X k m e = capped-clear (ask w a0 a1 b0 b1 i j X k) words e (misses-any (ask w a0 a1 b0 b1 i j X k) words X m)
-  one-clear Y k m e = capped-clear (ask w a0 a1 b0 b1 i j Y k) words e (misses-any (ask w a0 a1 b0 b1 i j Y k) words Y m)
-  one-clear Z k m e = capped-clear (ask w a0 a1 b0 b1 i j Z k) words e (misses-any (ask w a0 a1 b0 b1 i j Z k) words Z m)
-
-  each-clear : (axis : Axis) (n : ℕ) (ks : List Ask) → Each (Misses w a0 a1 b0 b1 i j axis (corners w a0 a1 b0 b1 i j axis) (separationIn w axis)) ks
-      → All (λ q. searchRefusal (q .ask) words ≡ 0) (askedFrom w (positions a0 a1) (positions b0 b1) i j n ks)
-      → All (λ q. ClearUpTo words (q .ask)) (askedFrom w (positions a0 a1) (positions b0 b1) i j n ks)
-  unfolding All askedFrom
-  each-clear axis n [] m h = tt
-  each-clear axis n (k ∷ ks) m h = (one-clear axis k (m .0) (h .0), each-clear axis (n + 1) ks (m .1) (h .1))
-
-  pub pair-clear : (axis : Axis) → Further (reachAt a0 a1 (9 * i + place axis)) (reachAt b0 b1 (9 * j + place axis)) (separationIn w axis)
-      → All (λ q. searchRefusal (q .ask) words ≡ 0) (pairQueries w (positions a0 a1) (positions b0 b1) i j)
-      → All (λ q. ClearUpTo words (q .ask)) (pairQueries w (positions a0 a1) (positions b0 b1) i j)
-  pair-clear axis f h =
-      let m = all-miss w a0 a1 b0 b1 i j axis (corners w a0 a1 b0 b1 i j axis) (separationIn w axis) f in
-      each-clear axis 1 fifteen
-      (m 0 (lit< tt), (m 1 (lit< tt), (m 2 (lit< tt), (m 3 (lit< tt), (m 4 (lit< tt), (m 5 (lit< tt), (m 6 (lit< tt), (m 7 (lit< tt), (m 8 (lit< tt), (m 9 (lit< tt), (m 10 (lit< tt), (m 11 (lit< tt), (m 12 (lit< tt), (m 13 (lit< tt), (m 14 (lit< tt), tt)))))))))))))))
-      h

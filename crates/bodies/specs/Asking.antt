@@ -9,7 +9,8 @@ use lib.Dec.{ltb, eqb}
 use Rattle.rules.specs.declared.Record.{Record}
 use Rattle.rules.specs.declared.Terms.{Terms}
 use Rattle.rules.specs.declared.Ask.{Ask}
-use Rattle.rules.specs.Bodies.{Body, cornerPlace, askOf}
+use Rattle.rules.specs.Bodies.{cornerPlace, askOf}
+use Rattle.bounds.specs.Reach.{body}
 use Rattle.bodies.specs.declared.asking.Point.{Point}
 use Rattle.bodies.specs.declared.asking.Four.{Four}
 
@@ -50,9 +51,6 @@ pub record Corners (k : Ask) : Type 0 where
   pub q : k .q < 6
   pub r : k .r < 6
   pub s : k .s < 6
-
-abbrev pub body : ℕ → List ℤ → List ℤ → Body
-body n start end = record { count = n; start = start; end = end }
 
 -- the counts of triangles have no part in a query
 abbrev pub QueryIs : Terms → List ℤ → List ℤ → List ℤ → List ℤ → ℕ → ℕ → Ask → Record → Type 0

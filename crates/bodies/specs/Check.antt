@@ -11,6 +11,7 @@ use Rattle.rules.specs.declared.Terms.{Terms}
 use Rattle.rules.specs.Numbers.{limitsOf, isCoordinate, between}
 use Rattle.rules.specs.Refusals.{every, orElse, searchRefusal}
 use Rattle.rules.specs.Bodies.{Body, A1, B1, B2, B3, isBody, face, fifteen, askOf, askedFrom, eachFrom, queriesOf, firstRefused, bodyRefusal}
+use Rattle.bounds.specs.Keeping.{Known, known}
 use Rattle.bodies.specs.OnePass.{allRight, rest-refused}
 use Rattle.bodies.specs.Coordinates.{RightBody, queries-right, all-right, right-all, body-A, body-B}
 
@@ -30,20 +31,6 @@ same false false f g = refl
 
 taken : (x r rest : ℕ) → x ≡ suc r → orElse x rest ≡ suc r
 taken x r rest e = ap (λ (n : ℕ). orElse n rest) e
-
--- what a body is known to be
-pub record Known (m : Body) : Type 0 where
-  pub some : 0 < m .count
-  pub few : m .count ≤ 256
-  pub start : length (m .start) ≡ 9 * m .count
-  pub end : length (m .end) ≡ 9 * m .count
-
-pub known : (m : Body) → isBody m ≡ true → Known m
-known m e =
-    let two = and-eq-true-iff (between 1 256 (m .count) && eqb (length (m .start)) (9 * m .count)) (eqb (length (m .end)) (9 * m .count)) .0 e in
-    let one = and-eq-true-iff (between 1 256 (m .count)) (eqb (length (m .start)) (9 * m .count)) .0 (two .0) in
-    let n = and-eq-true-iff (leb 1 (m .count)) (leb (m .count) 256) .0 (one .0) in
-    record { some = leb-true 1 (m .count) (n .0); few = leb-true (m .count) 256 (n .1); start = eqb-true (length (m .start)) (9 * m .count) (one .1); end = eqb-true (length (m .end)) (9 * m .count) (two .1) }
 
 right : (d : ℕ) (m : Body) → isRight d m ≡ true → RightBody d m
 right d m e = let h = and-eq-true-iff (every (isCoordinate (limitsOf d)) (m .start)) (every (isCoordinate (limitsOf d)) (m .end)) .0 e in record { start = h .0; end = h .1 }

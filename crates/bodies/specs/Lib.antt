@@ -6,5 +6,6 @@ pub mod Check
 pub mod Walk
 pub mod Between
 pub mod Apart
+pub mod Passed
 pub mod Counted
 pub mod Telling

@@ -2,6 +2,7 @@
 use Prim.Native.Nat.{ℕ, _/_, _%_}
 use mathlib.Core.Path.{_≡_}
 use mathlib.Core.List.{List, [], _∷_}
+use lib.IntN.{ℤ}
 use lib.ListN.{length}
 use Rattle.rules.specs.declared.Terms.{Terms}
 use Rattle.rules.specs.declared.BodyAnswer.{BodyAnswer}
@@ -9,6 +10,7 @@ use Rattle.rules.specs.declared.BodyAnswer.the-variants.{Clear, Least, Refused}
 use Rattle.rules.specs.Refusals.{first, orElse}
 use Rattle.rules.specs.QueryFile.{noEdition}
 use Rattle.rules.specs.Bodies.{Body, bodyRefusal, bodySearch, queueAfterBodies}
+use Rattle.rules.specs.Bounds.{walkRefusal}
 use Rattle.answers.specs.Walk.{short, Does}
 
 -- the answer of the written search, and what it leaves of the queue
@@ -33,11 +35,18 @@ bodyTold (Clear sum) = 2 ∷ 0 ∷ 0 ∷ 0 ∷ 0 ∷ 0 ∷ low sum ∷ high sum 
 bodyTold (Least t a b query word excess sum) = word ∷ t ∷ a ∷ b ∷ query ∷ excess ∷ low sum ∷ high sum ∷ []
 bodyTold (Refused number) = []
 
--- 10 where there is no such edition, then 21 and the queries' own, then 14
-unfoldable pub tellRefusal : Terms → Body → Body → ℕ → List ℕ → ℕ
-tellRefusal w a b words out = orElse (first (noEdition (w .edition) ∷ [])) (orElse (bodyRefusal w a b words) (first (short out 8 ∷ [])))
+-- 10 where there is no such edition, then a refusal of its own (0: none), then 14
+unfoldable pub toldRefusal : ℕ → ℕ → List ℕ → ℕ
+toldRefusal edition own out = orElse (first (noEdition edition ∷ [])) (orElse own (first (short out 8 ∷ [])))
 
+-- 21 and the queries' own
 abbrev pub Tells : Terms → Body → Body → List ℕ → List ℕ → List ℕ → List ℕ → ℕ → Type 0
 Tells w a b queue queue′ out out′ number =
     let r : BodyAnswer = bodySearch w a b (length queue) in
-    Does (tellRefusal w a b (length queue) out) (bodyTold r) (queueAfterBodies r queue) queue queue′ out out′ number
+    Does (toldRefusal (w .edition) (bodyRefusal w a b (length queue)) out) (bodyTold r) (queueAfterBodies r queue) queue queue′ out out′ number
+
+-- with bounds, 27 behind them; what is told is the same
+abbrev pub TellsWith : Terms → Body → List ℤ → Body → List ℤ → List ℕ → List ℕ → List ℕ → List ℕ → ℕ → Type 0
+TellsWith w a ofA b ofB queue queue′ out out′ number =
+    let r : BodyAnswer = bodySearch w a b (length queue) in
+    Does (toldRefusal (w .edition) (walkRefusal w a ofA b ofB (length queue)) out) (bodyTold r) (queueAfterBodies r queue) queue queue′ out out′ number

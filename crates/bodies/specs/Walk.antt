@@ -11,8 +11,14 @@ use Rattle.rules.specs.declared.Terms.{Terms}
 use Rattle.rules.specs.declared.BodyAnswer.{BodyAnswer}
 use Rattle.rules.specs.Refusals.{searchRefusal}
 use Rattle.rules.specs.Bodies.{Body, Asked, pairQueries, eachFrom, bodyRefusal, sumOf, heard, capOf, isOver, hearAll}
+use Rattle.rules.specs.Bounds.{boundsOf}
 use Rattle.triangles.specs.Members.{All, asked, askAt}
-use Rattle.bodies.specs.Asking.{body, There}
+use Rattle.bounds.specs.Reach.{body}
+use Rattle.bodies.specs.Asking.{There}
+
+-- no bounds are lent, or those of a body of n triangles
+abbrev pub Lent : ℕ → List ℤ → List ℤ → List ℤ → Type 0
+Lent n s e bounds = 0 < length bounds → bounds ≡ boundsOf (body n s e)
 
 -- positions alone: how many triangles there are has no part in a query
 abbrev pub positions : List ℤ → List ℤ → Body
@@ -81,16 +87,22 @@ pub record OfPair (w : Terms) (a0 a1 b0 b1 : List ℤ) (i j : ℕ) (queue : List
   pub second : j < 256
   pub to-hear : ToHear 15 (pairQueries w (positions a0 a1) (positions b0 b1) i j) queue sofar
 
-pub record OfRow (w : Terms) (a0 a1 : List ℤ) (i n : ℕ) (b0 b1 : List ℤ) (queue : List ℕ) (sofar : BodyAnswer) : Type 0 where
+pub record OfRow (w : Terms) (a0 a1 : List ℤ) (i n : ℕ) (b0 b1 ofB : List ℤ) (queue : List ℕ) (sofar : BodyAnswer) : Type 0 where
   pub start-of-a : 9 * i + 9 ≤ length a0
   pub end-of-a : 9 * i + 9 ≤ length a1
   pub start-of-b : 9 * n ≤ length b0
   pub end-of-b : 9 * n ≤ length b1
+  pub lent : Lent n b0 b1 ofB
   pub first : i < 256
   pub count : n ≤ 256
   pub to-hear : ToHear 3840 (rowQueries w (positions a0 a1) (positions b0 b1) i n) queue sofar
 
--- the bodies are not refused
-pub record OfBodies (w : Terms) (m : ℕ) (a0 a1 : List ℤ) (n : ℕ) (b0 b1 : List ℤ) (queue : List ℕ) : Type 0 where
-  pub none : bodyRefusal w (body m a0 a1) (body n b0 b1) (length queue) ≡ 0
+-- the bodies are not refused, and the lists, where any are lent, are their bounds
+pub record ToWalk (w : Terms) (m : ℕ) (a0 a1 ofA : List ℤ) (n : ℕ) (b0 b1 ofB : List ℤ) (words : ℕ) : Type 0 where
+  pub none : bodyRefusal w (body m a0 a1) (body n b0 b1) words ≡ 0
+  pub of-a : Lent m a0 a1 ofA
+  pub of-b : Lent n b0 b1 ofB
+
+pub record OfBodies (w : Terms) (m : ℕ) (a0 a1 ofA : List ℤ) (n : ℕ) (b0 b1 ofB : List ℤ) (queue : List ℕ) : Type 0 where
+  pub to-walk : ToWalk w m a0 a1 ofA n b0 b1 ofB (length queue)
   pub zero : queue ≡ replicate (length queue) 0

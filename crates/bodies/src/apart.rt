@@ -1,78 +1,49 @@
-// Two triangles that are further apart on an axis than the separation: all their queries miss over the whole cube, so that none is asked.
+// Triangles that are further apart on an axis than the separation: all their queries miss over the whole cube, so that none is asked.
+// Single triangles by what they reach, and blocks of 32 by their bounds, where lists of bounds are lent.
 ghost use mathlib.Core.Path.{_≡_};
 ghost use mathlib.Core.Bool.{true};
 ghost use Prim.Native.Nat.{_+_, _*_, _≤_};
 ghost use lib.ListN.{length};
-ghost use Rattle.gap.specs.Cube.{Wide, cubeMost};
+ghost use Rattle.gap.specs.Cube.{cubeMost};
 ghost use Rattle.gap.specs.Steps.{SmallSpan};
+ghost use Rattle.bounds.specs.Reach.{reachAt, HasTriangle, WideReach};
 ghost use Rattle.bodies.specs.Between.{Further};
-ghost use Rattle.bodies.specs.Apart.{triangleAt, reachAt, HasTriangle, ReachIs, WideReach, DistantFrom, Passed};
+ghost use Rattle.bodies.specs.Apart.{DistantFrom};
+ghost use Rattle.bodies.specs.Passed.{Passed, Asunder, AllAsunder, AloneBy, Alone, HasBound, HasBounds, Near};
+use bounds::block::block_end;
+use bounds::block::bound_at;
+use bounds::reach::Reach;
+use bounds::reach::X;
+use bounds::reach::Y;
+use bounds::reach::Z;
+use bounds::reach::triangle_at;
 use gap::cube::over_cube;
 use gap::span::Span;
-use kernel::Kernel;
 use rules::Terms;
-use whole::minus;
 
-// Where x, y and z of a point stand.
-const X: usize = 0;
-
-const Y: usize = 1;
-
-const Z: usize = 2;
-
-// A triangle on one axis as a kernel of its own, from the coordinate at a place: its cube is what the triangle reaches, its parallelogram's fourth corner too.
-fn triangle_at(s: &[i32], e: &[i32], at: usize) -> Kernel
-    requires { ⌜ (at + 7 ≤ length (now s)) × (at + 7 ≤ length (now e)) ⌝ }
-    ensures { λ r. ⌜ r ≡ triangleAt (now (s .entry)) (now (e .entry)) at ⌝ }
-    ensures { λ r. ⌜ Wide r ⌝ }
+// Whether two spans on an axis are further apart than d.
+fn are_apart(p: Span, q: Span, d: u32) -> bool
+    requires { ⌜ SmallSpan cubeMost p × SmallSpan cubeMost q ⌝ }
+    ensures { λ r. ⌜ (r ≡ true → Further p q d) ⌝ }
 {
-    let a0 = minus(s[at], 0);
-    let b0 = minus(s[at + 3], s[at]);
-    let c0 = minus(s[at + 6], s[at]);
-    let a1 = minus(e[at], 0);
-    let b1 = minus(e[at + 3], e[at]);
-    let c1 = minus(e[at + 6], e[at]);
-    Kernel {
-        a0: a0,
-        b0: b0,
-        c0: c0,
-        a1: a1,
-        b1: b1,
-        c1: c1,
-    }
-}
-
-// What a triangle reaches on each axis.
-pub struct Reach {
-    pub x: Span,
-    pub y: Span,
-    pub z: Span,
-}
-
-pub fn reach_of(s: &[i32], e: &[i32], i: usize) -> Reach
-    requires { ⌜ HasTriangle (now s) (now e) i ⌝ }
-    ensures { λ r. ⌜ ReachIs (now (s .entry)) (now (e .entry)) i r ⌝ }
-{
-    let x = over_cube(triangle_at(s, e, 9 * i + X));
-    let y = over_cube(triangle_at(s, e, 9 * i + Y));
-    let z = over_cube(triangle_at(s, e, 9 * i + Z));
-    Reach { x, y, z }
-}
-
-// Whether what a triangle of A reaches on an axis and a triangle of B, by the place of its first coordinate there, are further apart than d.
-fn apart_on(p: Span, s: &[i32], e: &[i32], at: usize, d: u32) -> bool
-    requires { ⌜ SmallSpan cubeMost p × ((at + 7 ≤ length (now s)) × (at + 7 ≤ length (now e))) ⌝ }
-    ensures { λ r. ⌜ (r ≡ true → Further p (reachAt (now (s .entry)) (now (e .entry)) at) d) ⌝ }
-{
-    let q = over_cube(triangle_at(s, e, at));
     let over = p.least - q.greatest;
     let under = q.least - p.greatest;
     let limit = d as i64;
     if limit < over { true } else { limit < under }
 }
 
+// ---- single triangles
+
+// What a triangle of A reaches on an axis, and a triangle of B by the place of its first coordinate there.
+fn apart_on(p: Span, s: &[i32], e: &[i32], at: usize, d: u32) -> bool
+    requires { ⌜ SmallSpan cubeMost p × ((at + 7 ≤ length (now s)) × (at + 7 ≤ length (now e))) ⌝ }
+    ensures { λ r. ⌜ (r ≡ true → Further p (reachAt (now (s .entry)) (now (e .entry)) at) d) ⌝ }
+{
+    are_apart(p, over_cube(triangle_at(s, e, at)), d)
+}
+
 // Whether all queries of a triangle of A, by its reach, with triangle j of B miss: z first, then x, then y.
-pub fn are_distant(w: Terms, r: Reach, s: &[i32], e: &[i32], j: usize) -> bool
+fn are_distant(w: Terms, r: Reach, s: &[i32], e: &[i32], j: usize) -> bool
     requires { ⌜ WideReach r × HasTriangle (now s) (now e) j ⌝ }
     ensures { λ b. ⌜ (b ≡ true → DistantFrom w r (now (s .entry)) (now (e .entry)) j) ⌝ }
 {
@@ -86,9 +57,9 @@ pub fn are_distant(w: Terms, r: Reach, s: &[i32], e: &[i32], j: usize) -> bool
 }
 
 // The first triangle of B, from one on, that is not so apart; n where all are.
-pub fn next_near(w: Terms, r: Reach, s: &[i32], e: &[i32], from: usize, n: usize) -> usize
+fn next_in(w: Terms, r: Reach, s: &[i32], e: &[i32], from: usize, n: usize) -> usize
     requires { ⌜ WideReach r × ((from ≤ n) × ((9 * n ≤ length (now s)) × (9 * n ≤ length (now e)))) ⌝ }
-    ensures { λ near. ⌜ Passed w r (now (s .entry)) (now (e .entry)) from n near ⌝ }
+    ensures { λ near. ⌜ Passed (DistantFrom w r (now (s .entry)) (now (e .entry))) from n near ⌝ }
 {
     let mut j = from;
     while j < n {
@@ -98,4 +69,99 @@ pub fn next_near(w: Terms, r: Reach, s: &[i32], e: &[i32], from: usize, n: usize
         j += 1;
     }
     j
+}
+
+// ---- blocks
+
+// Whether what is reached and a block of B are so apart, by the bound of the block; never where no bounds are lent.
+fn is_asunder(w: Terms, r: Reach, bounds: &[i32], block: usize) -> bool
+    requires { ⌜ WideReach r × HasBound (now bounds) block ⌝ }
+    ensures { λ b. ⌜ (b ≡ true → Asunder w r (now (bounds .entry)) block) ⌝ }
+{
+    if bounds.len() == 0 {
+        return false;
+    }
+    let b = bound_at(bounds, block);
+    if are_apart(r.z, b.z, w.dz) {
+        return true;
+    }
+    if are_apart(r.x, b.x, w.dx) {
+        return true;
+    }
+    are_apart(r.y, b.y, w.dy)
+}
+
+// The first triangle of B, from one on, that is near a triangle of A, by its reach: whole blocks are passed over by their bounds.
+pub fn next_near(
+    w: Terms,
+    r: Reach,
+    s: &[i32],
+    e: &[i32],
+    bounds: &[i32],
+    from: usize,
+    n: usize,
+) -> usize
+    requires { ⌜ WideReach r × Near n (now s) (now e) (now bounds) from ⌝ }
+    ensures { λ near. ⌜ Passed (DistantFrom w r (now (s .entry)) (now (e .entry))) from n near ⌝ }
+{
+    let mut j = from;
+    while j < n {
+        let end = block_end(n, j / 32);
+        if !is_asunder(w, r, bounds, j / 32) {
+            let near = next_in(w, r, s, e, j, end);
+            if near < end {
+                return near;
+            }
+        }
+        j = end;
+    }
+    j
+}
+
+// Whether what is reached is so apart from every block of B.
+fn is_alone(w: Terms, r: Reach, bounds: &[i32], n: usize) -> bool
+    requires { ⌜ WideReach r × HasBounds (now bounds) n ⌝ }
+    ensures { λ b. ⌜ (b ≡ true → AllAsunder w r (now (bounds .entry)) n) ⌝ }
+{
+    let mut block = 0;
+    while 32 * block < n {
+        if !is_asunder(w, r, bounds, block) {
+            return false;
+        }
+        block += 1;
+    }
+    true
+}
+
+// Whether a block of A is so apart from every block of B.
+fn is_block_alone(w: Terms, abounds: &[i32], block: usize, bbounds: &[i32], n: usize) -> bool
+    requires { ⌜ HasBound (now abounds) block × HasBounds (now bbounds) n ⌝ }
+    ensures { λ b. ⌜ (b ≡ true → AloneBy w (now (abounds .entry)) (now (bbounds .entry)) n block) ⌝ }
+{
+    if abounds.len() == 0 {
+        return false;
+    }
+    is_alone(w, bound_at(abounds, block), bbounds, n)
+}
+
+// The first triangle of A, from one on, whose block is not so apart from all of B; m where all are.
+pub fn next_row(
+    w: Terms,
+    abounds: &[i32],
+    m: usize,
+    bbounds: &[i32],
+    n: usize,
+    from: usize,
+) -> usize
+    requires { ⌜ (from ≤ m) × (HasBounds (now abounds) m × HasBounds (now bbounds) n) ⌝ }
+    ensures { λ i. ⌜ Passed (Alone w (now (abounds .entry)) (now (bbounds .entry)) n) from m i ⌝ }
+{
+    let mut i = from;
+    while i < m {
+        if !is_block_alone(w, abounds, i / 32, bbounds, n) {
+            return i;
+        }
+        i = block_end(m, i / 32);
+    }
+    i
 }

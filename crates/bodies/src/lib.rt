@@ -2,14 +2,16 @@
 ghost use mathlib.Core.Path.{_≡_};
 ghost use lib.ListN.{length};
 ghost use Rattle.rules.specs.declared.BodyAnswer.the-variants.{Clear};
-ghost use Rattle.rules.specs.Bodies.{isBody, queriesOf, bodyRefusal};
-ghost use Rattle.bodies.specs.Asking.{body};
+ghost use Rattle.rules.specs.Bodies.{queriesOf, bodyRefusal};
+ghost use Rattle.bounds.specs.Reach.{body};
 ghost use Rattle.bodies.specs.Telling.{Answered, Tells};
-ghost use Rattle.bodies.specs.Walk.{OfQuery, OfPair, OfRow, OfBodies, Heard, QueryHeard, PairHeard, RowHeard};
+ghost use Rattle.bodies.specs.Walk.{OfQuery, OfPair, OfRow, OfBodies, ToWalk, Heard, QueryHeard, PairHeard, RowHeard};
 use answers::numbers;
 use apart::next_near;
-use apart::reach_of;
+use apart::next_row;
 use asking::query_at;
+use bounds::is_body;
+use bounds::reach::reach_of;
 use hearing::cap_of;
 use hearing::counted;
 use hearing::heard;
@@ -23,22 +25,13 @@ use search::clear_unless;
 use search::search_accepted;
 use telling::write_told;
 
-mod apart; // apart.rt: two triangles whose queries all miss
+mod apart; // apart.rt: triangles whose queries all miss
 mod asking; // asking.rt: one query of a triangle pair
 mod hearing; // hearing.rt: what the queries come to
 mod telling; // telling.rt: an answer in eight numbers
+pub mod with_bounds; // with_bounds.rt: the walk with lists of bounds
 
 // ---- every query checked, in one pass over the coordinates
-
-// A count past 256 goes first: nine times it must fit.
-fn is_body(count: usize, start: &[i32], end: &[i32]) -> bool
-    ensures { λ r. ⌜ r ≡ isBody (body count (now (start .entry)) (now (end .entry))) ⌝ }
-{
-    if 256 < count {
-        return false;
-    }
-    (1 <= count) & (start.len() == 9 * count) & (end.len() == 9 * count)
-}
 
 // The number of the first refused query, or 21. Terms and queue are the same for all queries, so only the first is asked for them.
 pub fn body_refusal(
@@ -126,69 +119,77 @@ fn hear_row(
     n: usize,
     b0: &[i32],
     b1: &[i32],
+    bbounds: &[i32],
     queue: &mut [u64],
     first: BodyAnswer,
 ) -> BodyAnswer
-    requires { ⌜ OfRow w (now a0) (now a1) i n (now b0) (now b1) (now queue) first ⌝ }
+    requires { ⌜ OfRow w (now a0) (now a1) i n (now b0) (now b1) (now bbounds) (now queue) first ⌝ }
     ensures { λ r. ⌜ RowHeard w (now (a0 .entry)) (now (a1 .entry)) (now (b0 .entry)) (now (b1 .entry)) i n (now (queue .entry)) (now (queue .exit)) first r ⌝ }
 {
     let reach = reach_of(a0, a1, i);
-    let mut j = next_near(w, reach, b0, b1, 0, n);
+    let mut j = next_near(w, reach, b0, b1, bbounds, 0, n);
     let mut sofar = counted(15 * (j as u64), first);
     while j < n {
         let more = hear_pair(w, a0, a1, b0, b1, i, j, queue, sofar);
         if is_over(more) {
             return more;
         }
-        let near = next_near(w, reach, b0, b1, j + 1, n);
+        let near = next_near(w, reach, b0, b1, bbounds, j + 1, n);
         sofar = counted(15 * ((near - (j + 1)) as u64), more);
         j = near;
     }
     sofar
 }
 
-// Every triangle of A with each of B, in a queue of zeros.
+// Every triangle of A with each of B, in a queue of zeros; blocks of A that are apart from all of B are passed over.
 fn hear_bodies(
     w: Terms,
     m: usize,
     a0: &[i32],
     a1: &[i32],
+    abounds: &[i32],
     n: usize,
     b0: &[i32],
     b1: &[i32],
+    bbounds: &[i32],
     queue: &mut [u64],
 ) -> BodyAnswer
-    requires { ⌜ OfBodies w m (now a0) (now a1) n (now b0) (now b1) (now queue) ⌝ }
+    requires { ⌜ OfBodies w m (now a0) (now a1) (now abounds) n (now b0) (now b1) (now bbounds) (now queue) ⌝ }
     ensures { λ r. ⌜ Heard 983040 (queriesOf w (body m (now (a0 .entry)) (now (a1 .entry))) (body n (now (b0 .entry)) (now (b1 .entry)))) (now (queue .entry)) (now (queue .exit)) (Clear 0) r ⌝ }
 {
-    let mut sofar = BodyAnswer::Clear(0);
-    let mut i = 0;
+    let a_row = 15 * (n as u64);
+    let mut i = next_row(w, abounds, m, bbounds, n, 0);
+    let mut sofar = counted(a_row * (i as u64), BodyAnswer::Clear(0));
     while i < m {
-        sofar = hear_row(w, a0, a1, i, n, b0, b1, queue, sofar);
-        if is_over(sofar) {
-            return sofar;
+        let row = hear_row(w, a0, a1, i, n, b0, b1, bbounds, queue, sofar);
+        if is_over(row) {
+            return row;
         }
-        i += 1;
+        let near = next_row(w, abounds, m, bbounds, n, i + 1);
+        sofar = counted(a_row * ((near - (i + 1)) as u64), row);
+        i = near;
     }
     sofar
 }
 
-// Bodies that are not refused: the queue is cleared once, and every query keeps it zero.
-fn walk(
+// Bodies that are not refused, with their bounds or with none: the queue is cleared once, and every query keeps it zero.
+pub fn walk(
     w: Terms,
     m: usize,
     a0: &[i32],
     a1: &[i32],
+    abounds: &[i32],
     n: usize,
     b0: &[i32],
     b1: &[i32],
+    bbounds: &[i32],
     queue: &mut [u64],
 ) -> BodyAnswer
-    requires { ⌜ bodyRefusal w (body m (now a0) (now a1)) (body n (now b0) (now b1)) (length (now queue)) ≡ 0 ⌝ }
+    requires { ⌜ ToWalk w m (now a0) (now a1) (now abounds) n (now b0) (now b1) (now bbounds) (length (now queue)) ⌝ }
     ensures { λ r. ⌜ Answered w (body m (now (a0 .entry)) (now (a1 .entry))) (body n (now (b0 .entry)) (now (b1 .entry))) (now (queue .entry)) (now (queue .exit)) r ⌝ }
 {
     clear_unless(queue, false);
-    hear_bodies(w, m, a0, a1, n, b0, b1, queue)
+    hear_bodies(w, m, a0, a1, abounds, n, b0, b1, bbounds, queue)
 }
 
 // Two bodies: a refusal touches no word of the queue, and after an answer every word is zero.
@@ -208,7 +209,7 @@ pub fn search_bodies(
     if number != 0 {
         return BodyAnswer::Refused(number);
     }
-    walk(w, m, a0, a1, n, b0, b1, queue)
+    walk(w, m, a0, a1, &a0[0..0], n, b0, b1, &b0[0..0], queue)
 }
 
 // Two bodies, told in eight numbers; 10 comes first, and 21 and the queries' own numbers before 14.
@@ -235,7 +236,7 @@ pub fn answer_bodies(
     if out.len() < 8 {
         return 14;
     }
-    let answer = walk(w, m, a0, a1, n, b0, b1, queue);
+    let answer = walk(w, m, a0, a1, &a0[0..0], n, b0, b1, &b0[0..0], queue);
     write_told(out, answer);
     0
 }

@@ -2,8 +2,9 @@
 ghost use mathlib.Core.Path.{_≡_};
 ghost use Rattle.answers.specs.Walk.{One, Every, Counted};
 ghost use Rattle.answers.specs.Pair.{Pair};
-ghost use Rattle.bodies.specs.Asking.{body};
-ghost use Rattle.bodies.specs.Telling.{Tells};
+ghost use Rattle.bounds.specs.Reach.{body};
+ghost use Rattle.bounds.specs.Keeping.{Keeps, Replaces};
+ghost use Rattle.bodies.specs.Telling.{Tells, TellsWith};
 ghost use Rattle.reasons.specs.Telling.{TellsWhy};
 ghost use Rattle.controller.specs.Copying.{numberOf, Copied, Ended};
 ghost use Rattle.controller.specs.Given.{recordOf, rangeOf, Writes};
@@ -165,6 +166,69 @@ pub extern "C" fn taperhive_bodies(
         edition,
     };
     bodies::answer_bodies(w, m, a0, a1, n, b0, b1, queue, told)
+}
+
+// The bounds of a body, six numbers for every 32 triangles.
+#[no_mangle]
+pub extern "C" fn taperhive_bounds(
+    edition: u8,
+    count: usize,
+    start: &[i32],
+    end: &[i32],
+    bounds: &mut [i32],
+) -> u32
+    ensures { λ r. ⌜ Keeps edition (body count (now (start .entry)) (now (end .entry))) (now (bounds .entry)) (now (bounds .exit)) r ⌝ }
+{
+    bounds::write_bounds(edition, count, start, end, bounds)
+}
+
+// Two bodies as `taperhive_bodies` has them, with their bounds: blocks that are too far apart are passed over.
+#[no_mangle]
+pub extern "C" fn taperhive_walk(
+    edition: u8,
+    dx: u32,
+    dy: u32,
+    dz: u32,
+    tolerance: u32,
+    budget: u32,
+    m: usize,
+    a0: &[i32],
+    a1: &[i32],
+    abounds: &[i32],
+    n: usize,
+    b0: &[i32],
+    b1: &[i32],
+    bbounds: &[i32],
+    queue: &mut [u64],
+    told: &mut [u32],
+) -> u32
+    ensures { λ r. ⌜ TellsWith (record { dx = dx; dy = dy; dz = dz; tolerance = tolerance; budget = budget; edition = edition }) (body m (now (a0 .entry)) (now (a1 .entry))) (now (abounds .entry)) (body n (now (b0 .entry)) (now (b1 .entry))) (now (bbounds .entry)) (now (queue .entry)) (now (queue .exit)) (now (told .entry)) (now (told .exit)) r ⌝ }
+{
+    let w = Terms {
+        dx,
+        dy,
+        dz,
+        tolerance,
+        budget,
+        edition,
+    };
+    bodies::with_bounds::answer_with_bounds(w, m, a0, a1, abounds, n, b0, b1, bbounds, queue, told)
+}
+
+// Triangle n of a body replaced, and the bound of its block worked out again.
+#[no_mangle]
+pub extern "C" fn taperhive_replace(
+    edition: u8,
+    count: usize,
+    start: &mut [i32],
+    end: &mut [i32],
+    bounds: &mut [i32],
+    n: usize,
+    corners: &[i32],
+) -> u32
+    ensures { λ r. ⌜ Replaces edition (body count (now (start .entry)) (now (end .entry))) (now (bounds .entry)) n (now (corners .entry)) (now (start .exit)) (now (end .exit)) (now (bounds .exit)) r ⌝ }
+{
+    bounds::replace::replace(edition, count, start, end, bounds, n, corners)
 }
 
 // One pair without a file, in the range of an edition; its own refusals are told.

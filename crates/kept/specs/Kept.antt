@@ -1,5 +1,5 @@
--- What `taperhive_answer`, `taperhive_answers`, `taperhive_pair` and `taperhive_bodies` tell and what `sweep` prints keeps the promises (promise/specs), by their own
--- contracts alone: so demand 3 is a theorem of what is shipped. That of `taperhive_why` is `told-kept` in reasons/specs/Laws.antt.
+-- What `taperhive_answer`, `taperhive_answers`, `taperhive_pair`, `taperhive_bodies` and `taperhive_walk` tell and what `sweep` prints keeps the promises
+-- (promise/specs), by their own contracts alone: so demand 3 is a theorem of what is shipped. That of `taperhive_why` is `told-kept` in reasons/specs/Laws.antt.
 use Prim.Native.Nat.{ℕ, zero, suc, _+_}
 use mathlib.Core.Path.{_≡_, refl, ap, _∙_}
 use mathlib.Core.List.{List}
@@ -14,7 +14,7 @@ use Rattle.rules.specs.QueryFile.{recordSize, recordAt, recordCount, editionOf,
 use Rattle.answers.specs.Eight.{eight}
 use Rattle.answers.specs.Walk.{One, Every, tells, tellsFrom}
 use Rattle.answers.specs.Pair.{Pair}
-use Rattle.bodies.specs.Telling.{Tells, bodyTold}
+use Rattle.bodies.specs.Telling.{Tells, TellsWith, bodyTold}
 use Rattle.text.specs.declared.Written.the-variants.{Text}
 use Rattle.text.specs.Text.{rows, fileText}
 use Rattle.page.specs.Page.{sweepRefusal, sweepTold, pageUnless, sweepText, Paged}
@@ -61,6 +61,12 @@ pub bodies-kept : (w : Terms) (a b : Body) (queue queue′ out out′ : List ℕ
     → (out′ ≡ put out 0 (bodyTold (bodySearch w a b (length queue)))) × BodiesPromised w a b (length queue) (bodySearch w a b (length queue))
 unfolding putUnless
 bodies-kept w a b queue queue′ out out′ h = (h .told, demand-bodies w a b (length queue))
+
+-- `taperhive_walk`, where it returns 0: as `taperhive_bodies`, whatever was passed over
+pub walk-kept : (w : Terms) (a : Body) (ofA : List ℤ) (b : Body) (ofB : List ℤ) (queue queue′ out out′ : List ℕ) → TellsWith w a ofA b ofB queue queue′ out out′ 0
+    → (out′ ≡ put out 0 (bodyTold (bodySearch w a b (length queue)))) × BodiesPromised w a b (length queue) (bodySearch w a b (length queue))
+unfolding putUnless
+walk-kept w a ofA b ofB queue queue′ out out′ h = (h .told, demand-bodies w a b (length queue))
 
 -- `page::write_page`, where it writes a text and the file is not refused: the lines of answers that each keep demand 3
 pub page-kept : (s out out′ : List ℕ) (n : ℕ) → Paged s out out′ (Text n) → sweepRefusal s ≡ 0

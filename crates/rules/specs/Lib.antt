@@ -11,3 +11,5 @@ pub mod BodyExamples
 pub mod Why
 pub mod WhyExamples
 pub mod QueryFileExamples
+pub mod Bounds
+pub mod BoundsExamples

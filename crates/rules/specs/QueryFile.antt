@@ -208,8 +208,8 @@ fetched s n = fetchUnless (reachRefusal s n) (recordAt (editionOf s) s (placeOf 
 
 -- ---- writing
 
--- the list with these bytes from `at` on in place of what stood there
-unfoldable pub put : List ℕ → ℕ → List ℕ → List ℕ
+-- the list with these numbers from `at` on in place of what stood there
+unfoldable pub put : {A : Type 0} → List A → ℕ → List A → List A
 put s at bytes = take at s ++ bytes ++ drop (at + length bytes) s
 
 -- 10 EDITION for a writer, which is told the edition
@@ -269,7 +269,7 @@ wroteUnless zero = Write.Done
 wroteUnless (suc k) = Write.Refused (suc k)
 
 -- "A refused write changes no byte; a done one changes only the 116 or 16 bytes written."
-unfoldable pub putUnless : ℕ → List ℕ → ℕ → List ℕ → List ℕ
+unfoldable pub putUnless : {A : Type 0} → ℕ → List A → ℕ → List A → List A
 putUnless zero s at bytes = put s at bytes
 putUnless (suc k) s at bytes = s
 

@@ -87,3 +87,58 @@ pub type TwoBodies = unsafe extern "C" fn(
     *mut u32,
     usize,
 ) -> u32;
+
+/// Hands the parameters of a C function to another macro, behind what that is given besides. They stand here alone: the type, the
+/// declaration and a stub are made of them.
+#[macro_export]
+macro_rules! parameters {
+    (bounds to $macro:ident $($besides:tt)*) => {
+        $macro! { $($besides)*;
+            edition: u8,
+            count: usize, start: *const i32, start_len: usize, end: *const i32, end_len: usize,
+            bounds: *mut i32, bounds_len: usize
+        }
+    };
+    (walk to $macro:ident $($besides:tt)*) => {
+        $macro! { $($besides)*;
+            edition: u8, dx: u32, dy: u32, dz: u32, tolerance: u32, budget: u32,
+            a_count: usize, a_start: *const i32, a_start_len: usize, a_end: *const i32, a_end_len: usize,
+            a_bounds: *const i32, a_bounds_len: usize,
+            b_count: usize, b_start: *const i32, b_start_len: usize, b_end: *const i32, b_end_len: usize,
+            b_bounds: *const i32, b_bounds_len: usize,
+            queue: *mut u64, queue_len: usize, told: *mut u32, told_len: usize
+        }
+    };
+    (replace to $macro:ident $($besides:tt)*) => {
+        $macro! { $($besides)*;
+            edition: u8,
+            count: usize, start: *mut i32, start_len: usize, end: *mut i32, end_len: usize,
+            bounds: *mut i32, bounds_len: usize,
+            n: usize, corners: *const i32, corners_len: usize
+        }
+    };
+}
+
+/// A function's type, and its arguments by their names.
+macro_rules! function {
+    ($function:ident $arguments:ident; $($name:ident: $type:ty),*) => {
+        pub type $function = unsafe extern "C" fn($($type),*) -> u32;
+
+        #[derive(Clone, Copy)]
+        pub struct $arguments {
+            $(pub $name: $type),*
+        }
+
+        impl $arguments {
+            /// # Safety
+            /// Every pointer must reach as many elements as the length behind it says.
+            pub unsafe fn call(self, function: $function) -> u32 {
+                function($(self.$name),*)
+            }
+        }
+    };
+}
+
+parameters!(bounds to function Bounds BoundsArguments);
+parameters!(walk to function BoundedWalk WalkArguments);
+parameters!(replace to function Replace ReplaceArguments);

@@ -3,6 +3,7 @@
 use super::buffers::{Lent, Shifted};
 use super::expected::{answered, Expected, TOLD};
 use super::functions::{Answers, Copied, Count, OneAnswer, Pair, Trailer, TwoBodies, Why, Write};
+use super::functions::{BoundedWalk, Bounds, Replace};
 use super::judged::{differences, Must};
 use super::places::absent;
 use super::tally::Tally;
@@ -25,6 +26,9 @@ pub struct Library {
     pub pair: Pair,
     pub bodies: TwoBodies,
     pub why: Why,
+    pub bounds: Bounds,
+    pub walk: BoundedWalk,
+    pub replace: Replace,
 }
 
 impl Library {

@@ -1,6 +1,7 @@
 //! The proved library, linked in as an object.
 
 use super::Library;
+use crate::parameters;
 
 extern "C" {
     fn taperhive_answer(
@@ -102,6 +103,18 @@ extern "C" {
     ) -> u32;
 }
 
+macro_rules! declared {
+    ($function:ident; $($name:ident: $type:ty),*) => {
+        extern "C" {
+            fn $function($($name: $type),*) -> u32;
+        }
+    };
+}
+
+parameters!(bounds to declared taperhive_bounds);
+parameters!(walk to declared taperhive_walk);
+parameters!(replace to declared taperhive_replace);
+
 pub fn library() -> Library {
     Library {
         answer: taperhive_answer,
@@ -113,5 +126,8 @@ pub fn library() -> Library {
         pair: taperhive_pair,
         bodies: taperhive_bodies,
         why: taperhive_why,
+        bounds: taperhive_bounds,
+        walk: taperhive_walk,
+        replace: taperhive_replace,
     }
 }

@@ -3,7 +3,7 @@
 pub mod bodies;
 mod buffers;
 mod expected;
-mod functions;
+pub mod functions;
 pub mod given;
 mod judged;
 mod library;

@@ -1,7 +1,8 @@
 //! Measures the proved search beside exact ones written by hand and 004's method in floats, and the walk through two bodies, in one run.
 
 use second::bench::answering::{answers, ByHand};
-use second::bench::bodies::contest;
+use second::bench::bodies::contest::Contest;
+use second::bench::bodies::{costs, linked as with_bounds};
 use second::bench::corpus::{Class, Corpus, QUEUE_WORDS, SEED};
 use second::bench::fast::Fast;
 use second::bench::float::{queries, Query};
@@ -30,7 +31,8 @@ const GROWTH: [Head; 8] = [
 ];
 
 fn main() -> ExitCode {
-    println!("ratio: the time by that of the same ideas by hand; {ROUNDS} rounds, queue of {QUEUE_WORDS} words, seed {SEED}");
+    println!("ratio: the time by that of the same ideas by hand; by bounds: by that of the walk by hand that has bounds");
+    println!("{ROUNDS} rounds, queue of {QUEUE_WORDS} words, seed {SEED}");
     if figures(&linked::library()) {
         ExitCode::SUCCESS
     } else {
@@ -48,14 +50,14 @@ fn figures(library: &Library) -> bool {
     }
     grow(&corpus.by_size, library);
     clearing();
-    if !contest::run(library, Edition::Two, SEED, QUEUE_WORDS) {
+    let contest = Contest { library, bounds: with_bounds::LINKED, words: QUEUE_WORDS };
+    if !contest.run(Edition::Two, SEED) || !costs::run(&contest.bounds, Edition::Two, SEED) {
         return false;
     }
-    contest::growth(library, Edition::Two, SEED, QUEUE_WORDS);
+    contest.growth(Edition::Two, SEED);
     println!("\nedition 3");
     let [_, level_0, deeper] = Corpus::new(SEED, Edition::Three).classes;
-    show_all::<TWO>(&[level_0, deeper], library)
-        && contest::run(library, Edition::Three, SEED, QUEUE_WORDS)
+    show_all::<TWO>(&[level_0, deeper], library) && contest.run(Edition::Three, SEED)
 }
 
 /// Files of records of SIZE bytes; false where some answers are not the same.

@@ -1,5 +1,8 @@
 //! Two bodies of triangles: every pair is asked its fifteen queries, one after the other.
 
+pub mod bounds;
+pub mod replacing;
+
 use crate::edition::{Edition, Range};
 use crate::record::{Point, Record, EDGE_EDGE, VERTEX_FACE};
 use crate::refusals::{check_record, check_words, Refusal};
@@ -147,14 +150,14 @@ impl Least {
 
 impl Body<'_> {
     /// 1 to 256 triangles, and exactly nine numbers for each at the start and at the end.
-    fn has_its_positions(&self) -> bool {
+    pub(crate) fn has_its_positions(&self) -> bool {
         (1..=MOST_TRIANGLES).contains(&self.count)
             && self.start.len() == NUMBERS * self.count
             && self.end.len() == NUMBERS * self.count
     }
 
     /// Triangle n of a body that has its positions.
-    fn triangle(&self, n: usize) -> Triangle {
+    pub(crate) fn triangle(&self, n: usize) -> Triangle {
         [self.start, self.end].map(|positions| {
             let coordinate =
                 |corner: usize, axis: usize| positions[NUMBERS * n + 3 * corner + axis];

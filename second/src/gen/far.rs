@@ -35,6 +35,18 @@ pub fn bodies_moved_out(rng: &mut Dice, positions: &mut [[Vec<i32>; 2]; 2]) {
     }
 }
 
+/// The same by one way at the start and at the end, so that bounds keep their distances too.
+pub fn bodies_moved_as_one(rng: &mut Dice, positions: &mut [[Vec<i32>; 2]; 2]) {
+    if stays(rng) {
+        return;
+    }
+    for axis in 0..3 {
+        let lists = positions.iter_mut().flatten();
+        let coordinates = lists.flat_map(|list| list.iter_mut().skip(axis).step_by(3));
+        move_all(rng, coordinates.map(|coordinate| (1, coordinate)).collect());
+    }
+}
+
 fn stays(rng: &mut Dice) -> bool {
     rng.range() == Range::SHORTER || rng.one_in(3)
 }

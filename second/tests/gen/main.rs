@@ -1,5 +1,6 @@
 //! The generators: what each flavour promises.
 
+mod blocks;
 mod bodies;
 mod caps;
 #[path = "../common/mod.rs"]

@@ -16,6 +16,7 @@ macro_rules! each {
 }
 
 pub mod bodies;
+pub mod bounds;
 pub mod caps;
 pub mod given;
 pub mod ranges;
@@ -60,6 +61,9 @@ pub fn ranged_library<const R: usize>() -> Library {
         pair: given::pair::<0>,
         bodies: bodies::bodies::<0, R, false>,
         why: why::why::<0, R>,
+        bounds: bounds::bounds::<0, R>,
+        walk: bounds::walk::<0, R>,
+        replace: bounds::replace::<0, R>,
     }
 }
 
@@ -83,6 +87,31 @@ pub fn bodies_library<const N: usize>() -> Library {
     Library { bodies: bodies::bodies::<N, 0, false>, ..library::<0>() }
 }
 
+/// The library with fault number N of the list of bodies with bounds.
+pub fn bounds_library<const N: usize>() -> Library {
+    Library {
+        bounds: bounds::bounds::<N, 0>,
+        walk: bounds::walk::<N, 0>,
+        replace: bounds::replace::<N, 0>,
+        ..library::<0>()
+    }
+}
+
+/// The library with fault number R of the list of ranges where bounds are worked out, and nowhere else.
+pub fn ranged_bounds_library<const R: usize>() -> Library {
+    Library { bounds: bounds::bounds::<0, R>, ..library::<0>() }
+}
+
+/// The same where a triangle is replaced.
+pub fn ranged_replace_library<const R: usize>() -> Library {
+    Library { replace: bounds::replace::<0, R>, ..library::<0>() }
+}
+
+/// The same where a walk is lent bounds.
+pub fn ranged_walk_library<const R: usize>() -> Library {
+    Library { walk: bounds::walk::<0, R>, ..library::<0>() }
+}
+
 /// The library with fault number N of the list of `why`.
 pub fn why_library<const N: usize>() -> Library {
     Library { why: why::why::<N, 0>, ..library::<0>() }
@@ -99,9 +128,10 @@ where
     F: PartialEq + Debug,
 {
     assert_eq!(found.len(), faults.len());
-    for (fault, number) in faults.iter().zip(found) {
-        assert_eq!(*number, if unseen.contains(fault) { 0 } else { enough }, "{fault:?}");
-    }
+    let must = |fault: &F| if unseen.contains(fault) { 0 } else { enough };
+    let is_wrong = |(fault, number): &(&F, &usize)| **number != must(fault);
+    let wrong: Vec<(&F, &usize)> = faults.iter().zip(found).filter(is_wrong).collect();
+    assert!(wrong.is_empty(), "{wrong:?}");
 }
 
 /// The eight numbers of record n, with the fault.

@@ -3,7 +3,7 @@ use mathlib.Core.Path.{sym, ap, _∙_}
 use native.Mathlib.Omega.{arith}
 use Rattle.rules.specs.declared.Record.{Record}
 use Rattle.rules.specs.Refusals.{searchRefusal}
-use Rattle.bodies.specs.Asking.{body}
+use Rattle.bounds.specs.Reach.{body}
 use Rattle.bodies.proofs.Refusing.{both, turned, no-bodies, first-refused, by-positions, starts-there, ends-there}
 use borrow.Author.Needs.{needs}
 use Rattle.bodies.proofs.body_refusal.Statement.{statement}

@@ -1,12 +1,19 @@
 -- `bodies::hear_row` meets its contract: pair after pair, those that are apart passed over. Assumes nothing.
-use Prim.Native.Nat.{_+_, _*_, _-_, _≤_}
+use Prim.Native.Nat.{ℕ, _+_, _*_, _-_, _≤_, _<_}
 use mathlib.Core.Path.{_≡_, refl, sym, ap, _∙_}
 use mathlib.Core.Bool.{false}
 use borrow.Author.Needs.{needs}
 use native.Mathlib.Omega.{arith}
+use mathlib.Core.List.{List}
+use lib.IntN.{ℤ}
 use lib.ListN.{length}
+use Rattle.rules.specs.declared.Terms.{Terms}
 use Rattle.rules.specs.Bodies.{pairQueries, isOver}
+use Rattle.bounds.specs.declared.reach.Reach.{Reach}
+use Rattle.bounds.specs.Reach.{ReachIs}
 use Rattle.bodies.specs.Walk.{positions, rowQueries}
+use Rattle.bodies.specs.Apart.{DistantFrom, by-reach}
+use Rattle.bodies.specs.Counted.{None, Counts, pair-counts}
 use Rattle.bodies.proofs.Walking.{Going, going-none, going-asks, going-more, going-then, going-all, going-over, eachLeft, each-start, each-next, each-end}
 use Rattle.bodies.proofs.Passing.{passed-over, still-goes}
 use Rattle.bodies.proofs.hear_row.Statement.{statement}
@@ -14,14 +21,14 @@ use Rattle.bodies.proofs.hear_row.Tie as tie
 
 -- what was heard since the loop's start
 abbrev Inv-loop : tie.InvT-loop
-Inv-loop w a0 a1 i n b0 b1 queue₀ reach j₀ sofar₀ queue j sofar =
+Inv-loop w a0 a1 i n b0 b1 bbounds queue₀ reach j₀ sofar₀ queue j sofar =
     (j₀ ≤ j)
     × ((j ≤ n)
     × (Going (15 * (j - j₀)) (eachLeft n (λ j. pairQueries w (positions a0 a1) (positions b0 b1) i j) j₀) (eachLeft n (λ j. pairQueries w (positions a0 a1) (positions b0 b1) i j) j) queue₀ queue sofar₀ sofar
     × (isOver sofar ≡ false)))
 
 abbrev μ-loop : tie.MeasureT-loop
-μ-loop w a0 a1 i n b0 b1 queue₀ reach j₀ sofar₀ queue j sofar = n - j
+μ-loop w a0 a1 i n b0 b1 bbounds queue₀ reach j₀ sofar₀ queue j sofar = n - j
 
 reach-of-requires : tie.Need-reach-of-requires Inv-loop μ-loop
 reach-of-requires c κs = (c .before .pre .start-of-a, c .before .pre .end-of-a)
@@ -29,13 +36,18 @@ reach-of-requires c κs = (c .before .pre .start-of-a, c .before .pre .end-of-a)
 next-near-requires : tie.Need-next-near-requires Inv-loop μ-loop
 next-near-requires c κs =
     let p = c .before .before .pre in
-    (c .reach-of .ensures .wide, (omega arith, (p .start-of-b, p .end-of-b)))
+    (c .reach-of .ensures .wide, record { before = omega arith; start = p .start-of-b; end = p .end-of-b; few = p .count; lent = p .lent })
 
 mul-counted : tie.Need-mul-counted Inv-loop μ-loop
 mul-counted c = omega (arith, c .next-near .ensures .most, c .before .before .before .pre .count)
 
 counted-requires : tie.Need-counted-requires Inv-loop μ-loop
 counted-requires c κs = omega (arith, c .next-near .ensures .most, c .before .before .before .pre .count, c .before .before .before .pre .to-hear .room)
+
+-- those that are apart from triangle i count fifteen each
+row-of : (w : Terms) (a0 a1 b0 b1 : List ℤ) (i n words : ℕ) {reach : Reach} → ReachIs a0 a1 i reach → (x : ℕ) → x < n → DistantFrom w reach b0 b1 x
+    → None words (pairQueries w (positions a0 a1) (positions b0 b1) i x) → Counts words 15 (pairQueries w (positions a0 a1) (positions b0 b1) i x)
+row-of w a0 a1 b0 b1 i n words is x l d none = pair-counts w a0 a1 b0 b1 i x words (by-reach is d) none
 
 -- what was heard until then: the first that are apart were passed over
 begun : (c : tie.After-counted Inv-loop μ-loop)
@@ -47,9 +59,8 @@ begun c =
     let near = c .before .next-near in
     let s = c .before .before .before .before in
     let a = s .args in
-    let e : near .result ≡ near .result - 0 = omega arith in
-    let t : 0 + 15 * near .result ≡ 15 * near .result = omega arith in
-    passed-over (a .w) (a .a0 .now) (a .a1 .now) (a .b0 .now) (a .b1 .now) (a .i) (a .n) (c .before .before .reach-of .ensures) _ _ _ _ (s .pre .to-hear .goes) (near .ensures) e (c .counted .ensures) _ t (going-none 3840 _ _ _ _ (each-start _ _) (s .pre .to-hear))
+    let e : 15 * near .result ≡ 15 * (near .result - 0) = omega arith in
+    passed-over (a .n) 15 _ _ _ _ _ (row-of (a .w) (a .a0 .now) (a .a1 .now) (a .b0 .now) (a .b1 .now) (a .i) (a .n) _ (c .before .before .reach-of .ensures)) (s .pre .to-hear .goes) (near .ensures) e (c .counted .ensures) _ (omega arith) (going-none 3840 _ _ _ _ (each-start _ _) (s .pre .to-hear))
 
 loop-holds : tie.Need-loop-holds Inv-loop μ-loop
 loop-holds c =
@@ -94,7 +105,7 @@ next-near-requires-2 : tie.Need-next-near-requires-2 Inv-loop μ-loop
 next-near-requires-2 c κs =
     let l = c .before .before .before .before .before .before .before in
     let p = l .before .before .before .before .before .pre in
-    (l .before .before .before .reach-of .ensures .wide, (omega arith, (p .start-of-b, p .end-of-b)))
+    (l .before .before .before .reach-of .ensures .wide, record { before = omega arith; start = p .start-of-b; end = p .end-of-b; few = p .count; lent = p .lent })
 
 add-counted : tie.Need-add-counted Inv-loop μ-loop
 add-counted c = omega arith
@@ -129,7 +140,7 @@ loop-again c =
       (
         near .ensures .most,
         (
-          passed-over (a .w) (a .a0 .now) (a .a1 .now) (a .b0 .now) (a .b1 .now) (a .i) (a .n) (l .before .before .before .reach-of .ensures) _ _ _ _ o (near .ensures) refl (c .counted2 .ensures) _ t
+          passed-over (a .n) 15 _ _ _ _ _ (row-of (a .w) (a .a0 .now) (a .a1 .now) (a .b0 .now) (a .b1 .now) (a .i) (a .n) _ (l .before .before .before .reach-of .ensures)) o (near .ensures) refl (c .counted2 .ensures) _ (omega (arith, t))
               (going-more (15 * (l .loop .j - l .before .before .next-near .result)) 15 _ _ _ _ _ _ _ _ (v .1 .1 .0) (each-next _ _ (l .loop .j) (omega arith)) (15 * (l .loop .j - l .before .before .next-near .result) + 15) (omega arith) _ _ (c .before .before .before .before .before .before .hear-pair .ensures)),
           still-goes (15 * (near .result - (l .loop .j + 1))) (c .before .before .before .before .before .before .hear-pair .result) (c .counted2 .result) o (c .counted2 .ensures),
         ),

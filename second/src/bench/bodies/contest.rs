@@ -1,6 +1,7 @@
 //! The library and the walks by hand, measured by turns on the same bodies.
 
-use super::corpus::{Class, COUNTS};
+use super::bounded::{Calls, Lists, BY_HAND};
+use super::corpus::{Class, BLOCKS_COUNTS, COUNTS};
 use super::walk;
 use crate::bench::fast::Fast;
 use crate::bench::measure::{by_turns, Contestant, Measured, ROUNDS};
@@ -13,7 +14,10 @@ use crate::edition::Edition;
 use std::hint::black_box;
 
 const WORDS: [&str; 6] = ["REFUSED", "MET", "CLEAR", "SPENT", "ROOM", "FLOOR"];
-const HEADS: [Head; 4] = [("ms a walk", 3), ("ns a query", 2), ("boxes a query", 3), ("ratio", 2)];
+const HEADS: [Head; 5] =
+    [("ms a walk", 4), ("ns a query", 3), ("boxes a query", 3), ("ratio", 2), ("by bounds", 2)];
+const BOUNDS_GROWTH: [Head; 4] =
+    [("proved", 4), ("by hand", 4), ("without bounds", 4), ("by bounds", 2)];
 const GROWTH: [Head; 7] = [
     ("proved a walk", 4),
     ("same a walk", 4),
@@ -24,98 +28,142 @@ const GROWTH: [Head; 7] = [
     ("ratio", 2),
 ];
 
-/// Two bodies, a queue and told, as the library takes them.
-type Walked<'a> = Box<dyn Fn(&Bodies, &mut [u64], &mut [u32]) -> u32 + 'a>;
+/// Two bodies, their bounds, a queue and told; those without bounds look at none.
+type Walked<'a> = Box<dyn Fn(&Bodies, Lists, &mut [u64], &mut [u32]) -> u32 + 'a>;
 
-/// Says the figures of every class of an edition; false where some answers are not the same.
-pub fn run(library: &Library, edition: Edition, seed: u64, words: usize) -> bool {
-    let classes = Class::all(seed, edition);
-    for (class, count) in of_each_count(&classes) {
-        if !alike(library, &class.bodies(count), words) {
+/// What is measured: the library, its calls with bounds, and how many words are lent.
+#[derive(Clone, Copy)]
+pub struct Contest<'a> {
+    pub library: &'a Library,
+    pub bounds: Calls,
+    pub words: usize,
+}
+
+impl Contest<'_> {
+    /// Says the figures of every class of an edition; false where some answers are not the same.
+    pub fn run(&self, edition: Edition, seed: u64) -> bool {
+        let classes = Class::all(seed, edition);
+        let is_wrong = |(class, count): &(&Class, usize)| !self.alike(class, *count);
+        if let Some((class, count)) = of_each(&classes, COUNTS).find(is_wrong) {
             println!("{}, {count} triangles: the answers are not the same", class.name);
             return false;
         }
+        let edition = edition.number();
+        println!("\nbodies, edition {edition}: {MOST_TRIANGLES} by {MOST_TRIANGLES} triangles");
+        for class in &classes {
+            self.show(class);
+        }
+        true
     }
-    let edition = edition.number();
-    println!("\nbodies, edition {edition}: {MOST_TRIANGLES} by {MOST_TRIANGLES} triangles");
-    for class in &classes {
-        show(library, class, words);
+
+    /// Says how the times go up with the triangles.
+    pub fn growth(&self, edition: Edition, seed: u64) {
+        let [far, near, touching, _] = Class::all(seed, edition);
+        println!("\nbodies by their triangles, milliseconds a walk and nanoseconds a pair");
+        let classes = [far, near, touching];
+        let rows = of_each(&classes, COUNTS).map(|(class, count)| self.grow(class, count));
+        table::print(&GROWTH, &rows.collect::<Vec<_>>());
+        println!("\nthe same with bounds, milliseconds a walk");
+        let rows = of_each(&classes[..2], BLOCKS_COUNTS);
+        let rows = rows.map(|(class, count)| self.grow_by_bounds(class, count));
+        table::print(&BOUNDS_GROWTH, &rows.collect::<Vec<_>>());
     }
-    true
+
+    /// Those measured.
+    fn walks(&self) -> [(&'static str, Walked<'_>); 6] {
+        fn by_hand<W: walk::Way>() -> Walked<'static> {
+            Box::new(|bodies, _, queue, told| walk::bodies::<W>(bodies, queue, told))
+        }
+        let proved = |bodies: &Bodies, _: Lists, queue: &mut [u64], told: &mut [u32]| {
+            self.library.bodies(bodies, queue, told)
+        };
+        [
+            ("proved, taperhive_walk", Box::new(self.bounds.walk)),
+            ("by hand, by bounds", Box::new(BY_HAND.walk)),
+            ("proved, taperhive_bodies", Box::new(proved)),
+            ("by hand, the same ideas", by_hand::<Same>()),
+            ("by hand, fastest", by_hand::<Fast>()),
+            ("by hand, eight corners", by_hand::<Plain>()),
+        ]
+    }
+
+    /// All return 0, tell the same, and leave the same queue.
+    fn alike(&self, class: &Class, count: usize) -> bool {
+        let (bodies, [a, b]) = (class.bodies(count), class.kept(count));
+        let answers = self.walks().map(|(_, walked)| {
+            let (mut queue, mut told) = (vec![1; self.words], [1; 8]);
+            (walked(&bodies, [&a.bounds, &b.bounds], &mut queue, &mut told), queue, told)
+        });
+        answers[0].0 == 0 && answers.iter().all(|answer| *answer == answers[0])
+    }
+
+    /// A walk through so many triangles of both.
+    fn contestant<'a>(
+        &self,
+        (name, walked): (&'static str, Walked<'a>),
+        class: &'a Class,
+        count: usize,
+    ) -> Contestant<'a> {
+        let (mut queue, mut told) = (vec![0; self.words], [0; 8]);
+        let [a, b] = class.kept(count);
+        let run = move || {
+            let lists = [&a.bounds[..], &b.bounds];
+            walked(black_box(&class.bodies(count)), black_box(lists), &mut queue, &mut told);
+            u64::from(told[6]) | u64::from(told[7]) << 32
+        };
+        Contestant { name, run: Box::new(run) }
+    }
+
+    fn show(&self, class: &Class) {
+        let queries = (MOST_TRIANGLES * MOST_TRIANGLES * QUERIES as usize) as f64;
+        let mut contestants =
+            self.walks().map(|walked| self.contestant(walked, class, MOST_TRIANGLES));
+        let measured = by_turns(&mut contestants, ROUNDS);
+        let [_, by_bounds, _, same_ideas, ..] = measured.map(|one| one.nanoseconds);
+        let row = |(one, Measured { nanoseconds, boxes }): (&Contestant, Measured)| {
+            let (walk, a_query) = (nanoseconds / 1e6, nanoseconds / queries);
+            let ratios = [nanoseconds / same_ideas, nanoseconds / by_bounds];
+            let numbers = vec![walk, a_query, boxes as f64 / queries, ratios[0], ratios[1]];
+            (one.name.to_string(), numbers)
+        };
+        println!("\n{}: {}", class.name, answer(class, self.words));
+        table::print(&HEADS, &contestants.iter().zip(measured).map(row).collect::<Vec<_>>());
+    }
+
+    /// How the time goes up with the triangles.
+    fn grow(&self, class: &Class, count: usize) -> (String, Vec<f64>) {
+        let [_, _, proved, same_ideas, fastest, _] = self.walks();
+        let times = self.times([proved, same_ideas, fastest], class, count);
+        let row = table::growth(times, 1e6, (count * count) as f64);
+        (format!("{}, {count} by {count}", class.name), row)
+    }
+
+    /// The same of the walks with bounds, beside the proved one without.
+    fn grow_by_bounds(&self, class: &Class, count: usize) -> (String, Vec<f64>) {
+        let [proved, by_hand, without, ..] = self.walks();
+        let times = self.times([proved, by_hand, without], class, count);
+        let [proved, by_hand, without] = times.map(|time| time / 1e6);
+        let row = vec![proved, by_hand, without, proved / by_hand];
+        (format!("{}, {count} by {count}", class.name), row)
+    }
+
+    /// Nanoseconds of three walks.
+    fn times<'a>(
+        &self,
+        three: [(&'static str, Walked<'a>); 3],
+        class: &'a Class,
+        count: usize,
+    ) -> [f64; 3] {
+        let mut three = three.map(|walked| self.contestant(walked, class, count));
+        by_turns(&mut three, ROUNDS).map(|measured| measured.nanoseconds)
+    }
 }
 
-/// Says how the times go up with the triangles.
-pub fn growth(library: &Library, edition: Edition, seed: u64, words: usize) {
-    let classes = Class::all(seed, edition);
-    let rows = of_each_count(&classes).map(|(class, count)| grow(library, class, count, words));
-    println!("\nbodies by their triangles, milliseconds a walk and nanoseconds a pair");
-    table::print(&GROWTH, &rows.collect::<Vec<_>>());
-}
-
-fn of_each_count(classes: &[Class]) -> impl Iterator<Item = (&Class, usize)> {
-    classes.iter().flat_map(|class| COUNTS.map(|count| (class, count)))
-}
-
-/// Those measured.
-fn walks(library: &Library) -> [(&'static str, Walked<'_>); 4] {
-    [
-        (
-            "proved, taperhive_bodies",
-            Box::new(|bodies, queue, told| library.bodies(bodies, queue, told)),
-        ),
-        ("by hand, the same ideas", Box::new(walk::bodies::<Same>)),
-        ("by hand, fastest", Box::new(walk::bodies::<Fast>)),
-        ("by hand, eight corners", Box::new(walk::bodies::<Plain>)),
-    ]
-}
-
-/// All return 0, tell the same, and leave the same queue.
-fn alike(library: &Library, bodies: &Bodies, words: usize) -> bool {
-    let answers = walks(library).map(|(_, walked)| {
-        let (mut queue, mut told) = (vec![1; words], [1; 8]);
-        (walked(bodies, &mut queue, &mut told), queue, told)
-    });
-    answers[0].0 == 0 && answers.iter().all(|answer| *answer == answers[0])
-}
-
-/// A walk through so many triangles of both.
-fn contestant<'a>(
-    (name, walked): (&'static str, Walked<'a>),
-    class: &'a Class,
-    count: usize,
-    words: usize,
-) -> Contestant<'a> {
-    let (mut queue, mut told) = (vec![0; words], [0; 8]);
-    let run = move || {
-        walked(black_box(&class.bodies(count)), &mut queue, &mut told);
-        u64::from(told[6]) | u64::from(told[7]) << 32
-    };
-    Contestant { name, run: Box::new(run) }
-}
-
-fn show(library: &Library, class: &Class, words: usize) {
-    let queries = (MOST_TRIANGLES * MOST_TRIANGLES * QUERIES as usize) as f64;
-    let mut contestants =
-        walks(library).map(|walked| contestant(walked, class, MOST_TRIANGLES, words));
-    let measured = by_turns(&mut contestants, ROUNDS);
-    let same_ideas = measured[1].nanoseconds;
-    let row = |(one, Measured { nanoseconds, boxes }): (&Contestant, Measured)| {
-        let (walk, a_query) = (nanoseconds / 1e6, nanoseconds / queries);
-        let numbers = vec![walk, a_query, boxes as f64 / queries, nanoseconds / same_ideas];
-        (one.name.to_string(), numbers)
-    };
-    println!("\n{}: {}", class.name, answer(class, words));
-    table::print(&HEADS, &contestants.iter().zip(measured).map(row).collect::<Vec<_>>());
-}
-
-/// How the time goes up with the triangles.
-fn grow(library: &Library, class: &Class, count: usize, words: usize) -> (String, Vec<f64>) {
-    let [proved, same_ideas, fastest, _] = walks(library);
-    let mut three =
-        [proved, same_ideas, fastest].map(|walked| contestant(walked, class, count, words));
-    let times = by_turns(&mut three, ROUNDS).map(|measured| measured.nanoseconds);
-    let row = table::growth(times, 1e6, (count * count) as f64);
-    (format!("{}, {count} by {count}", class.name), row)
+fn of_each<const N: usize>(
+    classes: &[Class],
+    counts: [usize; N],
+) -> impl Iterator<Item = (&Class, usize)> {
+    classes.iter().flat_map(move |class| counts.map(|count| (class, count)))
 }
 
 /// What a walk by hand is answered.

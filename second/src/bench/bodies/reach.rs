@@ -1,5 +1,6 @@
 //! Pairs of triangles that are further apart on an axis than the separation: all their queries miss at level 0.
 
+use super::bounds::Bound;
 use super::walk::triangle;
 use crate::bodies::{Body, Triangle, MOST_TRIANGLES};
 
@@ -17,18 +18,41 @@ fn reach(triangle: &Triangle, axis: usize) -> [i32; 2] {
 pub struct Reach([[i32; 2]; 3]);
 
 impl Reach {
+    #[inline(always)]
     pub fn around(triangle: &Triangle, separations: &[u32; 3]) -> Reach {
+        Reach::within(separations, |axis| reach(triangle, axis))
+    }
+
+    #[inline(always)]
+    pub fn around_block(bound: &Bound, separations: &[u32; 3]) -> Reach {
+        Reach::within(separations, |axis| [bound[axis], bound[axis + 3]])
+    }
+
+    #[inline(always)]
+    fn within(separations: &[u32; 3], reach: impl Fn(usize) -> [i32; 2]) -> Reach {
         Reach([0, 1, 2].map(|axis| {
-            let ([least, greatest], d) = (reach(triangle, axis), separations[axis] as i32);
+            let ([least, greatest], d) = (reach(axis), separations[axis] as i32);
             [least - d, greatest + d]
         }))
     }
 
-    /// Whether a triangle of the other body is apart: z first, then x, then y.
+    /// Whether a triangle of the other body is apart.
     #[inline(always)]
     pub fn misses(&self, other: &Triangle) -> bool {
+        self.is_apart(|axis| reach(other, axis))
+    }
+
+    /// Whether a whole block of the other body is.
+    #[inline(always)]
+    pub fn misses_block(&self, bound: &Bound) -> bool {
+        self.is_apart(|axis| [bound[axis], bound[axis + 3]])
+    }
+
+    /// z first, then x, then y.
+    #[inline(always)]
+    fn is_apart(&self, reach: impl Fn(usize) -> [i32; 2]) -> bool {
         [2, 0, 1].into_iter().any(|axis| {
-            let ([from, to], [least, greatest]) = (self.0[axis], reach(other, axis));
+            let ([from, to], [least, greatest]) = (self.0[axis], reach(axis));
             (least > to) | (greatest < from)
         })
     }

@@ -11,13 +11,14 @@ use crate::bodies::{Bodies, Body, Triangle, MOST_TRIANGLES, NUMBERS, QUERIES};
 use crate::edition::{Edition, Range};
 use crate::record::Point;
 use crate::refusals::{check_words, Refusal, MOST_BUDGET, MOST_SEPARATION, MOST_TOLERANCE};
-use std::ops::ControlFlow;
+use std::ops::{ControlFlow, Range as Numbers};
 
-const BODY: u32 = 21;
-const SPACE: u32 = 14;
+pub const BODY: u32 = 21;
+pub const COORD: u32 = 3;
+pub const SPACE: u32 = 14;
 
 /// A walk goes on, or it ends at a time of 0.
-type Goes = ControlFlow<()>;
+pub type Goes = ControlFlow<()>;
 
 /// Which pairs of triangles a walk asks; their queries have the same hand's search.
 pub trait Way: ByHand {
@@ -41,19 +42,42 @@ impl Way for Plain {
 impl Way for Same {
     fn pairs(walk: &mut Walk, a: &Body, b: &Body) -> Goes {
         for m in 0..a.count {
-            let of_a = triangle(a, m);
-            let around = Reach::around(&of_a, &walk.terms.separations);
-            let mut apart = 0;
-            for n in 0..b.count {
-                if around.misses(&triangle(b, n)) {
-                    apart += 1;
-                } else {
-                    walk.pass_over(apart);
-                    apart = 0;
-                    walk.pair::<Same>([m as u32, n as u32], &of_a, &triangle(b, n))?;
-                }
+            let mut row = Row::new(walk, a, m);
+            row.ask(walk, b, 0..b.count)?;
+            walk.pass_over(row.apart);
+        }
+        Goes::Continue(())
+    }
+}
+
+/// A triangle of A on its way through B.
+pub struct Row {
+    m: usize,
+    of_a: Triangle,
+    pub around: Reach,
+    /// Triangles of B that are apart from it, and not counted yet.
+    pub apart: usize,
+}
+
+impl Row {
+    #[inline(always)]
+    pub fn new(walk: &Walk, a: &Body, m: usize) -> Row {
+        let of_a = triangle(a, m);
+        let around = Reach::around(&of_a, &walk.terms.separations);
+        Row { m, of_a, around, apart: 0 }
+    }
+
+    /// Through these triangles of B.
+    #[inline(always)]
+    pub fn ask(&mut self, walk: &mut Walk, b: &Body, of_b: Numbers<usize>) -> Goes {
+        for n in of_b {
+            if self.around.misses(&triangle(b, n)) {
+                self.apart += 1;
+            } else {
+                walk.pass_over(self.apart);
+                self.apart = 0;
+                walk.pair::<Same>([self.m as u32, n as u32], &self.of_a, &triangle(b, n))?;
             }
-            walk.pass_over(apart);
         }
         Goes::Continue(())
     }
@@ -83,24 +107,21 @@ impl Way for Fast {
 /// As `taperhive_bodies`.
 pub fn bodies<W: Way>(bodies: &Bodies, queue: &mut [u64], told: &mut [u32]) -> u32 {
     let Ok(edition) = Edition::of(bodies.edition) else { return Refusal::Edition.number() };
-    let range = edition.range();
-    let number = refusal(bodies, &range, queue.len());
+    let (range, Bodies { a, b, .. }) = (edition.range(), bodies);
+    let number = early_refusal(bodies, &range, queue.len());
     if number != 0 {
         return number;
     }
+    if [a.start, a.end, b.start, b.end].into_iter().any(|list| is_outside(list, &range)) {
+        return COORD;
+    }
     let Some(told) = told.first_chunk_mut::<8>() else { return SPACE };
-    let Bodies { a, b, separations, tolerance, budget, .. } = *bodies;
-    // No time so far is no cap.
-    let terms = Terms { deepest: range.deepest, separations, tolerance, budget, cap: 0 };
-    let mut walk = Walk { terms, queue, sum: 0, least: [CLEAR, u32::MAX, 0, 0, 0, 0] };
-    let _ = W::pairs(&mut walk, &a, &b);
-    *told = walk.told();
-    walk.queue.fill(0);
+    *told = Walk::through(bodies, &range, queue, |walk| W::pairs(walk, a, b));
     0
 }
 
-/// The checks in one pass: 21, the first query's coordinates, what all share, every other coordinate; 0 for none.
-fn refusal(bodies: &Bodies, range: &Range, words: usize) -> u32 {
+/// 21, the first query's coordinates, what all queries share; 0 for none. Every other coordinate comes behind.
+pub fn early_refusal(bodies: &Bodies, range: &Range, words: usize) -> u32 {
     let Bodies { a, b, .. } = bodies;
     let is_outside = |list: &[i32]| is_outside(list, range);
     if is_no_body(a) || is_no_body(b) {
@@ -108,7 +129,7 @@ fn refusal(bodies: &Bodies, range: &Range, words: usize) -> u32 {
     }
     let in_first = [&a.start[..3], &a.end[..3], &b.start[..NUMBERS], &b.end[..NUMBERS]];
     if in_first.into_iter().any(is_outside) {
-        return 3;
+        return COORD;
     }
     if bodies.separations.iter().any(|d| *d > MOST_SEPARATION) {
         return 4;
@@ -122,15 +143,10 @@ fn refusal(bodies: &Bodies, range: &Range, words: usize) -> u32 {
     if check_words(words).is_err() {
         return 7;
     }
-    let outside = [a.start, a.end, b.start, b.end].into_iter().any(is_outside);
-    if outside {
-        3
-    } else {
-        0
-    }
+    0
 }
 
-fn is_no_body(body: &Body) -> bool {
+pub fn is_no_body(body: &Body) -> bool {
     let length = body.count.wrapping_mul(NUMBERS);
     let in_range = (1..=MOST_TRIANGLES).contains(&body.count);
     !in_range || body.start.len() != length || body.end.len() != length
@@ -168,10 +184,32 @@ pub struct Walk<'a> {
     least: [u32; 6],
 }
 
-impl Walk<'_> {
+impl<'a> Walk<'a> {
+    /// What is told of sound bodies that are walked so; the queue is cleared at the end.
+    #[inline(always)]
+    pub fn through(
+        bodies: &Bodies,
+        range: &Range,
+        queue: &'a mut [u64],
+        pairs: impl FnOnce(&mut Walk<'a>) -> Goes,
+    ) -> [u32; 8] {
+        let Bodies { separations, tolerance, budget, .. } = *bodies;
+        // No time so far is no cap.
+        let terms = Terms { deepest: range.deepest, separations, tolerance, budget, cap: 0 };
+        let mut walk = Walk { terms, queue, sum: 0, least: [CLEAR, u32::MAX, 0, 0, 0, 0] };
+        let _ = pairs(&mut walk);
+        walk.queue.fill(0);
+        walk.told()
+    }
+
+    #[inline(always)]
+    pub fn separations(&self) -> &[u32; 3] {
+        &self.terms.separations
+    }
+
     /// So many triangles that are apart: level 0 decides each of their queries.
     #[inline(always)]
-    fn pass_over(&mut self, triangles: usize) {
+    pub fn pass_over(&mut self, triangles: usize) {
         self.sum += u64::from(QUERIES) * triangles as u64;
     }
 

@@ -7,7 +7,7 @@ use crate::edition::Edition;
 use std::fmt;
 
 /// The highest number of a refusal.
-const MOST_NUMBER: usize = 21;
+const MOST_NUMBER: usize = 27;
 
 #[derive(Clone, Debug, Default)]
 pub struct Tally {
@@ -21,6 +21,12 @@ pub struct Tally {
     /// Answers by word, refused calls first.
     words: [u64; 6],
     refusals: [u64; MOST_NUMBER + 1],
+    /// Walks that are lent bounds, and queries that those which were answered may pass over.
+    walks: u64,
+    passed_over: u64,
+    /// Lists of bounds worked out, and triangles replaced.
+    lists: u64,
+    replaced: u64,
 }
 
 impl Tally {
@@ -47,6 +53,33 @@ impl Tally {
         self.boxes += boxes;
         self.words[word] += 1;
     }
+
+    /// A walk that is lent bounds, with the queries that it may pass over, or the number that refuses it.
+    pub fn walked(&mut self, passed_over: Result<u64, u32>) {
+        self.walks += 1;
+        match passed_over {
+            Ok(queries) => self.passed_over += queries,
+            Err(number) => self.refusals[number as usize] += 1,
+        }
+    }
+
+    /// A list of bounds worked out, and the number that refuses it, or 0.
+    pub fn listed(&mut self, number: u32) {
+        self.lists += 1;
+        self.count_refusal(number);
+    }
+
+    /// The same of a triangle replaced.
+    pub fn replaced(&mut self, number: u32) {
+        self.replaced += 1;
+        self.count_refusal(number);
+    }
+
+    fn count_refusal(&mut self, number: u32) {
+        if number != 0 {
+            self.refusals[number as usize] += 1;
+        }
+    }
 }
 
 impl Counts for Tally {
@@ -67,6 +100,9 @@ impl fmt::Display for Tally {
         write!(f, " (edition 1: {one}, edition 2: {two}, edition 3: {three}, none: {none})")?;
         write!(f, ", {queries} queries, {boxes} boxes;")?;
         write_answers(f, &self.words, &self.refusals)?;
+        let Tally { walks, passed_over, lists, replaced, .. } = self;
+        write!(f, "; {walks} walks with bounds, {passed_over} queries passed over")?;
+        write!(f, ", {lists} lists of bounds, {replaced} triangles replaced")?;
         write!(f, "; {differing} cases differ")
     }
 }

@@ -1,6 +1,6 @@
 //! Bodies that are refused, alone and for several reasons at once.
 
-use super::{positions, tuned, Drawn};
+use super::{blocks, positions, tuned, Drawn};
 use crate::bodies::{MOST_TRIANGLES, NUMBERS};
 use crate::edition::Edition;
 use crate::gen::bad::bad_tolerance;
@@ -33,6 +33,16 @@ pub fn refused(rng: &mut Dice) -> Drawn {
     if rng.one_in(8) {
         spoil_length(rng, &mut drawn);
     }
+    drawn
+}
+
+/// A coordinate beyond its range in any block of the body that has more, or in its last triangle, which may be alone in a block.
+pub fn in_some_block(rng: &mut Dice) -> Drawn {
+    let mut drawn = blocks::many_blocks(rng);
+    let side = usize::from(drawn.counts[1] > drawn.counts[0]);
+    let list = &mut drawn.positions[side][rng.below(2)];
+    let places = [rng.below(list.len()), list.len() - 1 - rng.below(NUMBERS)];
+    list[rng.pick(&places)] = rng.beyond();
     drawn
 }
 

@@ -23,19 +23,19 @@ fn three(mut point: impl FnMut() -> Point) -> [Point; 3] {
     [point(), point(), point()]
 }
 
-fn add(a: Point, b: Point) -> Point {
+pub(super) fn add(a: Point, b: Point) -> Point {
     [a[0] + b[0], a[1] + b[1], a[2] + b[2]]
 }
 
 /// A triangle anywhere within reach, moving anyhow, or standing.
-fn any(rng: &mut Dice, reach: i32) -> Triangle {
+pub(super) fn any(rng: &mut Dice, reach: i32) -> Triangle {
     let start = three(|| point(rng, reach));
     let end = if rng.one_in(3) { start } else { three(|| point(rng, reach)) };
     [start, end]
 }
 
 /// Moves a triangle as one piece.
-fn moved(triangle: Triangle, ways: [Point; 2]) -> Triangle {
+pub(super) fn moved(triangle: Triangle, ways: [Point; 2]) -> Triangle {
     [0, 1].map(|end| triangle[end].map(|corner| add(corner, ways[end])))
 }
 

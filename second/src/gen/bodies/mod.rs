@@ -1,13 +1,14 @@
 //! Pairs of bodies at random, by flavour; each depends on the seed and the flavour only.
 
 mod bad;
+mod blocks;
 mod clumps;
 mod plates;
 mod tuned;
 pub mod words;
 
 use super::dice::Dice;
-use super::far::bodies_moved_out;
+use super::far::{bodies_moved_as_one, bodies_moved_out};
 use super::{named, shapes};
 use crate::bodies::{Bodies, Body, Triangle, MOST_TRIANGLES};
 use crate::edition::Edition;
@@ -53,20 +54,33 @@ const FLAVOURS: [([&str; 2], Make); 18] = [
     (LARGE, plates::whole),
 ];
 
+/// Those whose bounds matter, which a way of its own at the start and at the end would change.
+const BOUNDED: [([&str; 2], Make); 5] = [
+    (["bodies-bounds", "bodies-bounds3"], blocks::meeting),
+    (["bodies-blocks", "bodies-blocks3"], blocks::many_blocks),
+    (["bodies-through", "bodies-through3"], blocks::through),
+    (["bodies-ended", "bodies-ended3"], blocks::ended),
+    (["bodies-blocks-refused", "bodies-blocks-refused3"], bad::in_some_block),
+];
+
 /// The flavour of as many triangles as two bodies may have.
 pub const LARGE: [&str; 2] = ["bodies-256", "bodies-256-3"];
 
 /// The flavours' names.
 pub fn flavours() -> Vec<&'static str> {
-    FLAVOURS.iter().flat_map(|(names, _)| *names).collect()
+    FLAVOURS.iter().chain(&BOUNDED).flat_map(|(names, _)| *names).collect()
 }
 
 /// The bodies of a seed and a flavour, if there is such a flavour.
 pub fn generate(seed: u64, flavour: &str) -> Option<Drawn> {
-    let (place, make) = named(&FLAVOURS, flavour)?;
+    let bounded = named(&BOUNDED, flavour);
+    let (place, make) = bounded.or_else(|| named(&FLAVOURS, flavour))?;
     let mut rng = Dice::new(seed, flavour, [Edition::Two, Edition::Three][place]);
     let mut drawn = make(&mut rng);
-    bodies_moved_out(&mut rng, &mut drawn.positions);
+    match bounded {
+        Some(_) => bodies_moved_as_one(&mut rng, &mut drawn.positions),
+        None => bodies_moved_out(&mut rng, &mut drawn.positions),
+    }
     // Edition 1 has the same range.
     if drawn.edition == Edition::Two.number() && rng.one_in(2) {
         drawn.edition = Edition::One.number();

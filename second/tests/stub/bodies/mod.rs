@@ -1,6 +1,6 @@
 //! Two bodies by the stub, right or with one fault.
 
-mod refused;
+pub mod refused;
 mod walked;
 
 use super::ranges::ranged;
