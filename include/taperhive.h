@@ -95,6 +95,7 @@ enum {
     TAPERHIVE_REFUSAL_QUEUE, TAPERHIVE_REFUSAL_SHORT, TAPERHIVE_REFUSAL_MARK,
     TAPERHIVE_REFUSAL_EDITION, TAPERHIVE_REFUSAL_COUNT, TAPERHIVE_REFUSAL_BACK,
     TAPERHIVE_REFUSAL_INDEX, TAPERHIVE_REFUSAL_SPACE,
+    TAPERHIVE_REFUSAL_WORD = 16, TAPERHIVE_REFUSAL_MATCH = 17,
     TAPERHIVE_REFUSAL_BODY = 21, TAPERHIVE_REFUSAL_CAP = 22, TAPERHIVE_REFUSAL_OUTSIDE = 23,
     TAPERHIVE_REFUSAL_NOT_RULED_OUT = 24, TAPERHIVE_REFUSAL_BOUNDS = 27
 };
@@ -117,10 +118,11 @@ enum {
     TAPERHIVE_MOST_TRIANGLES = 256
 };
 
-/* Sizes: a record's bytes, a trailer's, a pair's points and a triangle's corners in numbers. */
+/* Sizes: a record's bytes, an answer's, a trailer's, a pair's points and a triangle's corners in
+ * numbers. */
 enum {
-    TAPERHIVE_RECORD_BYTES_1 = 116, TAPERHIVE_RECORD_BYTES = 128, TAPERHIVE_TRAILER_BYTES = 16,
-    TAPERHIVE_POINTS = 24, TAPERHIVE_TRIANGLE = 9
+    TAPERHIVE_RECORD_BYTES_1 = 116, TAPERHIVE_RECORD_BYTES = 128, TAPERHIVE_ANSWER_BYTES = 32,
+    TAPERHIVE_TRAILER_BYTES = 16, TAPERHIVE_POINTS = 24, TAPERHIVE_TRIANGLE = 9
 };
 
 /* Triangles of a block, numbers of its bound, and those of all bounds of a body: at most 48. */
@@ -286,6 +288,47 @@ uint32_t taperhive_copy(const uint8_t *file, size_t file_len, size_t n, uint8_t 
  * Returns 0, or 10, 11, 12 (fewer bytes before the place than the records take), 14, and no byte is
  * changed. */
 uint32_t taperhive_trailer(uint8_t *out, size_t out_len, size_t at, uint8_t edition, uint32_t count);
+
+/* THE ANSWER FILE keeps what the records of a query file were answered: an answer is 32 bytes, the
+ * eight numbers that are told of a pair, and a trailer with the mark AEND ends the file
+ * (docs/FORMAT.md). What is written reads back as it was; every answer that this library tells can be
+ * written. The refusals of a file are 8 to 13, as of a query file, with 32 bytes a record and edition 1.
+ *   16 WORD    eight numbers that are no answer: the word is above 5; t, u or v is above 1,048,575; the
+ *              count of a word other than 0 is 0 or above 1,000,000; word 0 has refusal number 0; or a
+ *              number that the word does not use is not 0. Word 0 uses its refusal number alone, CLEAR
+ *              its count alone, the others all but the refusal number
+ *   17 MATCH   counts or ids differ */
+
+/* The records of a query file in order, answered into a whole answer file from out's first byte on: 32
+ * bytes for each and 16 behind them, and no other byte is changed. A refused record takes its 32 bytes
+ * too. The queue is left as taperhive_answers leaves it. Returns 0, or 8 to 12 of the query file, then
+ * 14 where out has too few bytes, and nothing lent is changed. */
+uint32_t taperhive_log(const uint8_t *file, size_t file_len,
+                       uint64_t *queue, size_t queue_len, uint8_t *out, size_t out_len);
+
+/* An answer from told's first eight numbers, written from place `at` of out on. Returns 0, or why no
+ * byte was changed: 14 where told has fewer than eight numbers, then 16, then 14 where fewer than 32
+ * bytes stand from that place on, a place past the end included. */
+uint32_t taperhive_log_write(uint8_t *out, size_t out_len, size_t at,
+                             const uint32_t *told, size_t told_len);
+
+/* The 16 bytes of an answer file's trailer from place `at` on, behind so many answers. Returns 0, or
+ * 11, 12 (fewer bytes before the place than the answers take), 14, and no byte is changed. */
+uint32_t taperhive_log_trailer(uint8_t *out, size_t out_len, size_t at, uint32_t count);
+
+/* Answer n of an answer file, from 0 on, into told's first eight numbers. Returns 0, or 8 to 13, then
+ * 16, then 14 where told has fewer than eight numbers, and nothing is told. */
+uint32_t taperhive_log_read(const uint8_t *log, size_t log_len, size_t n,
+                            uint32_t *told, size_t told_len);
+
+/* How many answers an answer file has, into told[0]. Returns 0, or 8 to 12, then 14. */
+uint32_t taperhive_log_count(const uint8_t *log, size_t log_len, uint32_t *told, size_t told_len);
+
+/* Whether an answer file goes with a query file: as many answers as records, and the same ids in order.
+ * Nothing else of them is looked at, so a query that is refused, or an answer that reading refuses,
+ * matches by its id too. Returns 0 where they match; else 8 to 12 of the query file, 8 to 12 of the
+ * answer file, then 17. */
+uint32_t taperhive_match(const uint8_t *file, size_t file_len, const uint8_t *log, size_t log_len);
 
 #ifdef __cplusplus
 }

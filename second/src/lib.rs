@@ -1,5 +1,6 @@
 //! The second program: it shares no code with the proved one, so that the two can be compared.
 
+pub mod answer_file;
 pub mod bench;
 pub mod beside;
 pub mod bodies;

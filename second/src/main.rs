@@ -4,14 +4,17 @@ use std::fs::File;
 use std::io::{Read, Write};
 use std::process::ExitCode;
 
+use second::answer_file::text::{keep, tell, MOST_LOG};
 use second::edition::Edition;
 use second::gen::{flavours, generate, queries::queries, words::words};
 use second::script;
-use second::text::{sweep, MOST_INPUT, SWEEP_WORDS};
+use second::text::{file_line, sweep, MOST_INPUT, SWEEP_WORDS};
 use second::why::text;
 
 const USAGE: &str = "\
 usage: second sweep [WORDS]         answers the query file on standard input
+       second keep [FILE]           the answer file of a query file, by name or on standard input
+       second tell [FILE]           the same lines of an answer file
        second why N T U V [FILE]    why a moment and place of record N was ruled out; the file by name or on standard input
        second gen SEED FLAVOUR      writes a query file
        second flavours              lists the flavours
@@ -40,10 +43,14 @@ fn run(arguments: &[&str]) -> Option<Vec<u8>> {
     match arguments {
         ["sweep"] => Some(sweep(&input(), SWEEP_WORDS).into_bytes()),
         ["sweep", words] => Some(sweep(&input(), words.parse().ok()?).into_bytes()),
+        ["keep"] => Some(answer_file(&input())),
+        ["keep", file] => Some(answer_file(&kept(opened(file)?, MOST_INPUT))),
+        ["tell"] => Some(tell(&kept(std::io::stdin().lock(), MOST_LOG)).into_bytes()),
+        ["tell", file] => Some(tell(&kept(opened(file)?, MOST_LOG)).into_bytes()),
         ["why", n, t, u, v] => why_line(n, [t, u, v], input),
         ["why", n, t, u, v, file] => {
             let opened = opened(file)?;
-            why_line(n, [t, u, v], || kept(opened))
+            why_line(n, [t, u, v], || kept(opened, MOST_INPUT))
         }
         ["gen", seed, flavour] => generate(seed.parse().ok()?, flavour),
         ["flavours"] => Some((flavours().join("\n") + "\n").into_bytes()),
@@ -66,6 +73,14 @@ fn query_lines(seed: &str, number: &str, edition: Edition) -> Option<Vec<u8>> {
     Some(queries(seed.parse().ok()?, number.parse().ok()?, edition).into_bytes())
 }
 
+/// The answer file, or no byte of a refused file, whose number goes to standard error.
+fn answer_file(input: &[u8]) -> Vec<u8> {
+    keep(input).unwrap_or_else(|refusal| {
+        eprint!("{}", file_line(refusal));
+        Vec::new()
+    })
+}
+
 /// The line of `why`; nothing is read where an argument is no number.
 fn why_line(n: &str, point: [&str; 3], input: impl FnOnce() -> Vec<u8>) -> Option<Vec<u8>> {
     let [t, u, v] = point.map(|parts| parts.parse().ok());
@@ -86,13 +101,13 @@ fn opened(name: &str) -> Option<File> {
 }
 
 fn input() -> Vec<u8> {
-    kept(std::io::stdin().lock())
+    kept(std::io::stdin().lock(), MOST_INPUT)
 }
 
-/// What a file or standard input holds, but no more kept than tells that it is too long.
-fn kept(mut from: impl Read) -> Vec<u8> {
+/// What a file or standard input holds, but no more kept than tells that it is longer than it may be.
+fn kept(mut from: impl Read, most: usize) -> Vec<u8> {
     let mut bytes = Vec::new();
-    let kept = from.by_ref().take(MOST_INPUT as u64 + 1).read_to_end(&mut bytes);
+    let kept = from.by_ref().take(most as u64 + 1).read_to_end(&mut bytes);
     // The rest is read and dropped, so that whoever writes it is not cut off.
     let dropped = std::io::copy(&mut from, &mut std::io::sink());
     kept.and(dropped).expect("the input can be read");

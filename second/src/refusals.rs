@@ -20,6 +20,8 @@ pub enum Refusal {
     Index = 13,
     Space = 14,
     Long = 15,
+    Word = 16,
+    Match = 17,
     Body = 21,
     Cap = 22,
     Outside = 23,

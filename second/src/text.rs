@@ -3,22 +3,16 @@
 use crate::file::{open, record_at};
 use crate::refusals::Refusal;
 use crate::search::{search, Answer};
+use crate::told::{told_of, Told, WORDS};
 
 /// The most bytes that `sweep` reads.
 pub const MOST_INPUT: usize = 65_536;
 /// The queue that `sweep` searches with.
 pub const SWEEP_WORDS: usize = 4_096;
 
-/// Answers counted by their words.
+/// Answers counted by the numbers of their words.
 #[derive(Clone, Copy, Debug, Default, PartialEq, Eq)]
-struct Tallies {
-    met: u32,
-    clear: u32,
-    spent: u32,
-    room: u32,
-    floor: u32,
-    refused: u32,
-}
+struct Tallies([u32; WORDS.len()]);
 
 /// The whole text for an input, 15 before anything else.
 pub fn sweep(input: &[u8], words: usize) -> String {
@@ -34,16 +28,23 @@ pub fn sweep_any_length(input: &[u8], words: usize) -> String {
         Ok(opened) => opened,
         Err(refusal) => return file_line(refusal),
     };
-    let mut text = String::new();
-    let mut tallies = Tallies::default();
-    for n in 0..opened.count {
+    let answer = |n| {
         let found = record_at(input, n);
         let (record, range) = found.expect("n is below the count of an opened file");
-        let answer = search(&record, range, words);
-        tallies.add(&answer);
-        text += &line(record.id, &answer);
+        told_of(record.id, &search(&record, range, words))
+    };
+    lines((0..opened.count).map(answer))
+}
+
+/// A line for each of these, all with a word that is one, and the TOTAL line.
+pub fn lines(answers: impl Iterator<Item = Told>) -> String {
+    let mut text = String::new();
+    let mut tallies = Tallies::default();
+    for told in answers {
+        tallies.0[told[1] as usize] += 1;
+        text += &told_line(&told);
     }
-    text + &tallies.line(opened.count)
+    text + &tallies.line()
 }
 
 /// What is printed of a file that is refused.
@@ -53,37 +54,24 @@ pub fn file_line(refusal: Refusal) -> String {
 
 /// A record's line.
 pub fn line(id: u32, answer: &Answer) -> String {
-    let (word, corner) = match answer {
-        Answer::Clear { count } => return format!("{id} CLEAR 0 0 0 0 {count}\n"),
-        Answer::Refused(refusal) => return format!("{id} REFUSED {}\n", refusal.number()),
-        Answer::Met(corner) => ("MET", corner),
-        Answer::Spent(corner) => ("SPENT", corner),
-        Answer::Room(corner) => ("ROOM", corner),
-        Answer::Floor(corner) => ("FLOOR", corner),
-    };
-    format!(
-        "{id} {word} {} {} {} {} {}\n",
-        corner.t, corner.u, corner.v, corner.excess, corner.count
-    )
+    told_line(&told_of(id, answer))
+}
+
+fn told_line(told: &Told) -> String {
+    let [id, word, t, u, v, excess, count, refusal] = told;
+    let name = WORDS[*word as usize];
+    if *word == 0 {
+        return format!("{id} {name} {refusal}\n");
+    }
+    format!("{id} {name} {t} {u} {v} {excess} {count}\n")
 }
 
 impl Tallies {
-    fn add(&mut self, answer: &Answer) {
-        let tally = match answer {
-            Answer::Met(_) => &mut self.met,
-            Answer::Clear { .. } => &mut self.clear,
-            Answer::Spent(_) => &mut self.spent,
-            Answer::Room(_) => &mut self.room,
-            Answer::Floor(_) => &mut self.floor,
-            Answer::Refused(_) => &mut self.refused,
-        };
-        *tally += 1;
-    }
-
-    fn line(&self, records: u32) -> String {
-        format!(
-            "TOTAL {records} MET {} CLEAR {} SPENT {} ROOM {} FLOOR {} REFUSED {}\n",
-            self.met, self.clear, self.spent, self.room, self.floor, self.refused
-        )
+    /// The number of records, then the tallies, that of the refused ones last.
+    fn line(&self) -> String {
+        let records: u32 = self.0.iter().sum();
+        let tally = |word: usize| format!(" {} {}", WORDS[word], self.0[word]);
+        let tallies: String = (1..WORDS.len()).chain([0]).map(tally).collect();
+        format!("TOTAL {records}{tallies}\n")
     }
 }

@@ -3,7 +3,8 @@
 #[macro_use]
 mod stub;
 
-use second::beside::{compare, process, report, tally::Tally, walk::Walk, Case, Library};
+use second::beside::walk::{Programs, Walk};
+use second::beside::{compare, process, report, tally::Tally, Case, Library};
 use second::gen::flavours;
 use std::fs;
 use std::path::PathBuf;
@@ -140,10 +141,9 @@ fn folder(name: &str) -> PathBuf {
 #[test]
 fn differences_are_kept_and_fail_the_verdict() {
     let folder = folder("kept");
-    let sweep = program(&["sweep"]);
+    let programs = Programs::by(|name| program(&[name]));
     let case = Case::new(3, "tiny").unwrap();
-    let why = program(&["why"]);
-    let walk = |library| Walk { library, sweep: &sweep, why: &why, folder: folder.clone() };
+    let walk = |library| Walk { library, programs: &programs, folder: folder.clone() };
     assert!(walk(library::<0>()).only(&case));
     assert!(!folder.exists());
     assert!(!walk(library::<1>()).only(&case));
@@ -158,9 +158,9 @@ fn differences_are_kept_and_fail_the_verdict() {
 #[test]
 fn comparing_nothing_fails() {
     let folder = folder("nothing");
-    let (sweep, why) = (program(&["sweep"]), program(&["why"]));
+    let programs = Programs::by(|name| program(&[name]));
     let library = library::<0>();
-    let walk = Walk { library, sweep: &sweep, why: &why, folder: folder.clone() };
+    let walk = Walk { library, programs: &programs, folder: folder.clone() };
     assert!(!walk.run(1, Duration::ZERO));
     assert!(walk.run(1, Duration::from_secs(6)));
     // Nothing is left of a comparison without a difference.

@@ -3,8 +3,9 @@
 #[macro_use]
 mod stub;
 
+use second::beside::walk::{Programs, Walk};
 use second::beside::why::{compare, program, tally::Tally};
-use second::beside::{walk::Walk, Case, Library};
+use second::beside::{Case, Library};
 use second::gen::flavours;
 use std::fs;
 use stub::why::{Fault, FAULTS};
@@ -109,10 +110,10 @@ fn wrong_programs_are_reported() {
 #[test]
 fn differences_are_kept_with_the_point() {
     let folder = std::env::temp_dir().join(format!("taperhive-why-{}", std::process::id()));
-    let [sweep, why] =
-        ["sweep", "why"].map(|name| [env!("CARGO_BIN_EXE_second"), name].map(str::to_string));
+    let programs =
+        Programs::by(|name| [env!("CARGO_BIN_EXE_second"), name].map(str::to_string).to_vec());
     let case = Case::new(3, "tiny2").unwrap();
-    let walk = |library| Walk { library, sweep: &sweep, why: &why, folder: folder.clone() };
+    let walk = |library| Walk { library, programs: &programs, folder: folder.clone() };
     assert!(walk(library::<0>()).only(&case));
     assert!(!folder.exists());
     assert_eq!(FAULTS[5], Fault::SidesExchanged);

@@ -13,7 +13,7 @@
 
 enum { LENT = 0xA5, LONG = 1 << 20 };
 
-static uint8_t made[LONG], bytes[LONG];
+static uint8_t made[LONG], kept[LONG], bytes[LONG];
 static uint64_t words[LONG];
 static uint32_t numbers[LONG];
 static int32_t starts[LONG], ends[LONG], bounds_a[LONG], bounds_b[LONG];
@@ -86,6 +86,14 @@ static void make_file(void)
     taperhive_write(made, LONG, 0, 3, 2, 0, 81, 12, 15, 17, 67, 900, 0, edges, 24);
     taperhive_write(made, LONG, at, 3, 2, 1, 82, 18, 11, 14, 71, 800, 0, edges, 24);
     taperhive_trailer(made, LONG, 2 * at, 3, 2);
+}
+
+/* Their answers and the trailer behind them, for the functions that read an answer file. */
+enum { LOG_BYTES = 2 * TAPERHIVE_ANSWER_BYTES + TAPERHIVE_TRAILER_BYTES };
+
+static void make_log(void)
+{
+    taperhive_log(made, FILE_BYTES, words, 64, kept, LONG);
 }
 
 static void written(void)
@@ -225,6 +233,61 @@ static void replaced(void)
     print_outcome("taperhive_replace", CALL(taperhive_replace), 0);
 }
 
+static void logged(void)
+{
+    const uint8_t *file = made;
+    uint64_t *queue = words;
+    uint8_t *out = bytes;
+    size_t file_len = FILE_BYTES, queue_len = 64, out_len = 100;
+    paint();
+    print_outcome("taperhive_log", CALL(taperhive_log), 0);
+}
+
+static void log_written(void)
+{
+    static const uint32_t refused[TAPERHIVE_TOLD] = {83, 0, 0, 0, 0, 0, 0, 5};
+    const uint32_t *told = refused;
+    uint8_t *out = bytes;
+    size_t out_len = 100, at = 5, told_len = 8;
+    paint();
+    print_outcome("taperhive_log_write", CALL(taperhive_log_write), 0);
+}
+
+static void log_trailed(void)
+{
+    uint8_t *out = bytes;
+    size_t out_len = 200, at = 70;
+    uint32_t count = 2;
+    paint();
+    print_outcome("taperhive_log_trailer", CALL(taperhive_log_trailer), 0);
+}
+
+static void log_read(void)
+{
+    const uint8_t *log = kept;
+    uint32_t *told = numbers;
+    size_t log_len = LOG_BYTES, n = 1, told_len = 9;
+    paint();
+    print_outcome("taperhive_log_read", CALL(taperhive_log_read), 8);
+}
+
+static void log_counted(void)
+{
+    const uint8_t *log = kept;
+    uint32_t *told = numbers;
+    size_t log_len = LOG_BYTES, told_len = 1;
+    paint();
+    print_outcome("taperhive_log_count", CALL(taperhive_log_count), 1);
+}
+
+static void matched(void)
+{
+    const uint8_t *file = made, *log = kept;
+    size_t file_len = FILE_BYTES, log_len = LOG_BYTES;
+    paint();
+    print_outcome("taperhive_match", CALL(taperhive_match), 0);
+}
+
 /* With length 0 a pointer may be NULL: each function once with nothing lent. */
 static void nothing_lent(void)
 {
@@ -239,7 +302,13 @@ static void nothing_lent(void)
     printf(" %u", taperhive_bodies(2, 0, 0, 0, 16, 1, 0, 0, 0, 0, 0, 0, 0, 0, 0, 0, 0, 0, 0, 0));
     printf(" %u", taperhive_bounds(2, 0, 0, 0, 0, 0, 0, 0));
     printf(" %u", taperhive_walk(2, 0, 0, 0, 16, 1, 0, 0, 0, 0, 0, 0, 0, 0, 0, 0, 0, 0, 0, 0, 0, 0, 0, 0));
-    printf(" %u\n", taperhive_replace(2, 0, 0, 0, 0, 0, 0, 0, 0, 0, 0));
+    printf(" %u", taperhive_replace(2, 0, 0, 0, 0, 0, 0, 0, 0, 0, 0));
+    printf(" %u", taperhive_log(0, 0, 0, 0, 0, 0));
+    printf(" %u", taperhive_log_write(0, 0, 0, 0, 0));
+    printf(" %u", taperhive_log_trailer(0, 0, 0, 0));
+    printf(" %u", taperhive_log_read(0, 0, 0, 0, 0));
+    printf(" %u", taperhive_log_count(0, 0, 0, 0));
+    printf(" %u\n", taperhive_match(0, 0, 0, 0));
     paint();
     printf("no queue: %u", taperhive_pair(2, 2, 0, 5, 1, 2, 3, 16, 9, 0, edges, 24, 0, 0, numbers, 8));
     printf(", refused %u\n", numbers[TAPERHIVE_NUMBER]);
@@ -248,6 +317,7 @@ static void nothing_lent(void)
 int main(void)
 {
     make_file();
+    make_log();
     written();
     trailed();
     copied();
@@ -260,6 +330,12 @@ int main(void)
     bounded();
     walked_by_bounds();
     replaced();
+    logged();
+    log_written();
+    log_trailed();
+    log_read();
+    log_counted();
+    matched();
     nothing_lent();
     return 0;
 }

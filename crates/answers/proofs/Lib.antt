@@ -1,3 +1,2 @@
 -- What the proofs of `answers` cite.
-pub mod Walking
 pub mod Refusing

@@ -3,7 +3,7 @@ use Prim.Native.Nat.{ℕ, zero, suc}
 use mathlib.Core.Path.{_≡_, refl}
 use mathlib.Core.List.{List}
 use Rattle.rules.specs.QueryFile.{put, putUnless}
-use Rattle.answers.specs.Walk.{queueUnless, Does, Counted}
+use Rattle.answers.specs.Walk.{queueUnless, Does}
 
 pub refuses : (number : ℕ) {refusal : ℕ} (numbers after queue out : List ℕ) → number ≡ refusal → (number ≡ 0 → ⊥) → Does refusal numbers after queue queue out out number
 unfolding putUnless queueUnless
@@ -22,6 +22,3 @@ pub does-once : {refusal : ℕ} {numbers after queue queue′ queue″ out out�
     → Does refusal numbers after queue queue″ out out″ number′
     → (number ≡ number′) × (out′ ≡ out″) × (queue′ ≡ queue″)
 does-once v w = (cc, cc, cc)
-
-pub counted-once : {s out out′ out″ : List ℕ} {number number′ : ℕ} → Counted s out out′ number → Counted s out out″ number′ → (number ≡ number′) × (out′ ≡ out″)
-counted-once v w = (cc, cc)

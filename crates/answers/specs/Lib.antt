@@ -3,5 +3,6 @@ pub mod Eight
 pub mod Walk
 pub mod Pair
 pub mod Step
+pub mod Walking
 pub mod Doing
 pub mod Asking

@@ -5,7 +5,7 @@ ghost use mathlib.Core.List.{_∷_, []};
 ghost use Prim.Native.Nat.{_+_, _*_, _≤_};
 ghost use lib.ListN.{length};
 ghost use Rattle.rules.specs.Answers.{told, queueAfter};
-ghost use Rattle.rules.specs.QueryFile.{isWide, recordSize, put};
+ghost use Rattle.rules.specs.QueryFile.{fileForm, isWide, recordSize, put};
 ghost use Rattle.rules.specs.Search.{search};
 ghost use Rattle.queries.specs.Held.{Held};
 ghost use Rattle.answers.specs.Eight.{eight};
@@ -13,15 +13,18 @@ ghost use Rattle.answers.specs.Step.{isAnswered, Answering, Answered};
 ghost use Rattle.answers.specs.Walk.{tells, tellsFrom, queueFrom, One, Every, Counted};
 use asking::id_at;
 use asking::search_at;
+use queries::file_form;
 use queries::open_file;
+use queries::open_form;
 use queries::record::encode;
 use queries::record::place_of;
 use rules::Answer;
+use rules::Form;
 use rules::Opened;
 use rules::Record;
 use rules::Told;
 
-mod asking; // asking.rt: a record asked where it stands in a file
+pub mod asking; // asking.rt: a record asked where it stands in a file
 
 // ---- an answer in numbers
 
@@ -101,18 +104,17 @@ pub fn write_four(out: &mut [u32], at: usize, a: u32, b: u32, c: u32, d: u32)
 }
 
 // The eight numbers of a record's answer, from `at` on.
-fn write_eight(out: &mut [u32], at: usize, id: u32, answer: Answer)
+pub fn write_eight(out: &mut [u32], at: usize, id: u32, n: Told)
     requires { ⌜ at + 8 ≤ length (now out) ⌝ }
-    ensures { λ _. ⌜ now (out .exit) ≡ put (now (out .entry)) at (eight id (told answer)) ⌝ }
+    ensures { λ _. ⌜ now (out .exit) ≡ put (now (out .entry)) at (eight id n) ⌝ }
 {
-    let n = numbers(answer);
     write_four(out, at, id, n.word, n.t, n.u);
     write_four(out, at + 4, n.v, n.excess, n.count, n.number);
 }
 
 // ---- records searched
 
-fn is_answered(answer: Answer) -> bool
+pub fn is_answered(answer: Answer) -> bool
     ensures { λ r. ⌜ r ≡ isAnswered answer ⌝ }
 {
     match answer {
@@ -159,11 +161,12 @@ fn answer_at(
     out: &mut [u32],
     to: usize,
 ) -> bool
-    requires { ⌜ Answering edition (now file) at (now queue) clean (now out) to ⌝ }
-    ensures { λ r. ⌜ Answered edition (now (file .entry)) at (now (queue .entry)) (now (queue .exit)) clean (now (out .entry)) to (now (out .exit)) r ⌝ }
+    requires { ⌜ Answering 8 edition (now file) at (now queue) clean (now out) to ⌝ }
+    ensures { λ r. ⌜ Answered eight edition (now (file .entry)) at (now (queue .entry)) (now (queue .exit)) clean (now (out .entry)) to (now (out .exit)) r ⌝ }
 {
     let answer = search_at(file, edition, at, queue, clean);
-    write_eight(out, to, id_at(file, at, edition), answer);
+    let n = numbers(answer);
+    write_eight(out, to, id_at(file, at, edition), n);
     clean | is_answered(answer)
 }
 
@@ -246,11 +249,11 @@ pub fn answer_all(file: &[u8], queue: &mut [u64], out: &mut [u32]) -> u32
     }
 }
 
-// How many records a file has.
-pub fn count_records(file: &[u8], out: &mut [u32]) -> u32
-    ensures { λ r. ⌜ Counted (now (file .entry)) (now (out .entry)) (now (out .exit)) r ⌝ }
+// How many records a file of a form has.
+pub fn count_form(file: &[u8], form: Form, out: &mut [u32]) -> u32
+    ensures { λ r. ⌜ Counted form (now (file .entry)) (now (out .entry)) (now (out .exit)) r ⌝ }
 {
-    let o = open_file(file);
+    let o = open_form(file, form);
     match o {
         Opened::Refused(number) => number,
         Opened::Records {
@@ -265,4 +268,12 @@ pub fn count_records(file: &[u8], out: &mut [u32]) -> u32
             0
         }
     }
+}
+
+// How many records a query file has.
+pub fn count_records(file: &[u8], out: &mut [u32]) -> u32
+    ensures { λ r. ⌜ Counted (fileForm (now (file .entry))) (now (file .entry)) (now (out .entry)) (now (out .exit)) r ⌝ }
+{
+    let form = file_form(file);
+    count_form(file, form, out)
 }

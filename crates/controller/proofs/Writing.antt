@@ -7,7 +7,8 @@ use Rattle.rules.specs.declared.Fetched.{Fetched}
 use Rattle.rules.specs.declared.Record.{Record}
 use Rattle.rules.specs.QueryFile.{fetched, recordBytes, writeRefusal, wroteUnless, putUnless, Written}
 use Rattle.rules.specs.Refusals.{orElse}
-use Rattle.controller.specs.Copying.{numberOf, copyRefusal, Puts, Copied}
+use Rattle.queries.specs.Writing.{Puts}
+use Rattle.controller.specs.Copying.{numberOf, copyRefusal, Copied}
 
 number-wrote : (k : ℕ) → numberOf (wroteUnless k) ≡ k
 unfolding wroteUnless

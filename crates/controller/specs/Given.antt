@@ -9,7 +9,7 @@ use Rattle.rules.specs.declared.Record.{Record}
 use Rattle.rules.specs.QueryFile.{recordBytes, writeRefusal}
 use Rattle.rules.specs.Refusals.{first, orElse}
 use Rattle.answers.specs.Pair.{fewPoints}
-use Rattle.controller.specs.Copying.{Puts}
+use Rattle.queries.specs.Writing.{Puts}
 
 -- the record: its points are the first 24 numbers, four points at the start and four at the end; bytes 2 and 3 are 0, and the cap is the word at 28
 abbrev pub recordOf : (edition kind flags id dx dy dz tolerance budget cap : ℕ) → List ℤ → Record

@@ -1,5 +1,6 @@
 // The library for a controller: numbers and slices only. include/taperhive.h says what each function does.
 ghost use mathlib.Core.Path.{_≡_};
+ghost use Rattle.rules.specs.QueryFile.{fileForm};
 ghost use Rattle.answers.specs.Walk.{One, Every, Counted};
 ghost use Rattle.answers.specs.Pair.{Pair};
 ghost use Rattle.bounds.specs.Reach.{body};
@@ -15,6 +16,7 @@ use rules::Terms;
 use rules::Wrote;
 
 mod given; // given.rt: the record of a pair that is given in numbers
+mod answer_file; // answer_file.rt: the functions of the answer file
 
 // Record n of a query file.
 #[no_mangle]
@@ -40,7 +42,7 @@ pub extern "C" fn taperhive_answers(file: &[u8], queue: &mut [u64], told: &mut [
 // How many records a query file has.
 #[no_mangle]
 pub extern "C" fn taperhive_count(file: &[u8], told: &mut [u32]) -> u32
-    ensures { λ r. ⌜ Counted (now (file .entry)) (now (told .entry)) (now (told .exit)) r ⌝ }
+    ensures { λ r. ⌜ Counted (fileForm (now (file .entry))) (now (file .entry)) (now (told .entry)) (now (told .exit)) r ⌝ }
 {
     answers::count_records(file, told)
 }

@@ -28,7 +28,7 @@ first-most n (c ∷ cs) h = go (c .due) (first-most n cs (h .1))
     go true g = h .0
     go false g = g
 
-own-most : (r : Record) (words : ℕ) → searchRefusal r words ≤ 22
+pub own-most : (r : Record) (words : ℕ) → searchRefusal r words ≤ 22
 unfolding searchRefusal
 own-most r words =
     first-most 22 (recordCases r ++ (record { number = 7; due = not (isQueue words) } ∷ []))

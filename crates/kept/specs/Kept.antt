@@ -1,5 +1,6 @@
 -- What `taperhive_answer`, `taperhive_answers`, `taperhive_pair`, `taperhive_bodies` and `taperhive_walk` tell and what `sweep` prints keeps the promises
--- (promise/specs), by their own contracts alone: so demand 3 is a theorem of what is shipped. That of `taperhive_why` is `told-kept` in reasons/specs/Laws.antt.
+-- (promise/specs), by their own contracts alone: so demand 3 is a theorem of what is shipped. That of `taperhive_log` is `log-kept` in Log.antt, that of
+-- `taperhive_why` `told-kept` in reasons/specs/Laws.antt.
 use Prim.Native.Nat.{ℕ, zero, suc, _+_}
 use mathlib.Core.Path.{_≡_, refl, ap, _∙_}
 use mathlib.Core.List.{List}
@@ -10,9 +11,9 @@ use Rattle.rules.specs.declared.Terms.{Terms}
 use Rattle.rules.specs.Answers.{told}
 use Rattle.rules.specs.Search.{search}
 use Rattle.rules.specs.Bodies.{Body, bodySearch}
-use Rattle.rules.specs.QueryFile.{recordSize, recordAt, recordCount, editionOf, placeOf, putUnless, put}
+use Rattle.rules.specs.QueryFile.{joined, readFrom, recordSize, recordAt, recordCount, editionOf, placeOf, putUnless, put}
 use Rattle.answers.specs.Eight.{eight}
-use Rattle.answers.specs.Walk.{One, Every, tells, tellsFrom}
+use Rattle.answers.specs.Walk.{One, Every, tellsBy, tellsFrom}
 use Rattle.answers.specs.Pair.{Pair}
 use Rattle.bodies.specs.Telling.{Tells, TellsWith, bodyTold}
 use Rattle.text.specs.declared.Written.the-variants.{Text}
@@ -32,7 +33,7 @@ EachKept edition s words (suc n) at numbers =
     (take 8 numbers ≡ eight (r .id) (told (search r words))) × (Promised r (told (search r words)) × EachKept edition s words n (at + recordSize edition) (drop 8 numbers))
 
 pub each-kept : (edition : ℕ) (s : List ℕ) (words n at : ℕ) → EachKept edition s words n at (tellsFrom edition s words n at)
-unfolding EachKept tellsFrom tells
+unfolding EachKept joined readFrom tellsBy
 each-kept edition s words zero at = tt
 each-kept edition s words (suc n) at = (refl, (demand-3 (recordAt edition s at) words, each-kept edition s words n (at + recordSize edition)))
 
@@ -40,7 +41,7 @@ each-kept edition s words (suc n) at = (refl, (demand-3 (recordAt edition s at) 
 pub answer-kept : (s : List ℕ) (n : ℕ) (queue queue′ out out′ : List ℕ) → One s n queue queue′ out out′ 0
     → let r : Record = recordAt (editionOf s) s (placeOf s n) in
     (out′ ≡ put out 0 (eight (r .id) (told (search r (length queue))))) × Promised r (told (search r (length queue)))
-unfolding putUnless tells
+unfolding putUnless tellsBy
 answer-kept s n queue queue′ out out′ h = (h .told, demand-3 (recordAt (editionOf s) s (placeOf s n)) (length queue))
 
 -- `taperhive_answers`, where it returns 0
@@ -53,7 +54,7 @@ answers-kept s queue queue′ out out′ h = (h .told, each-kept (editionOf s) s
 -- `taperhive_pair`, where it returns 0; r is the record that its numbers make
 pub pair-kept : (edition : ℕ) (points : List ℤ) (r : Record) (queue queue′ out out′ : List ℕ) → Pair edition points r queue queue′ out out′ 0
     → (out′ ≡ put out 0 (eight (r .id) (told (search r (length queue))))) × Promised r (told (search r (length queue)))
-unfolding putUnless tells
+unfolding putUnless tellsBy
 pair-kept edition points r queue queue′ out out′ h = (h .told, demand-3 r (length queue))
 
 -- `taperhive_bodies`, where it returns 0

@@ -1,2 +1,5 @@
 -- What the library tells keeps the promises.
 pub mod Kept
+pub mod Fits
+pub mod Log
+pub mod Retold

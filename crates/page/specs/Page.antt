@@ -29,7 +29,7 @@ unfoldable pub sweepText : List ℕ → List ℕ
 sweepText file = pageUnless (sweepRefusal file) (fileText (rows (recordCount file) (sweepTold file)))
 
 -- 45,280 bytes hold any of these texts: 80 bytes a line for the 564 records that 65,536 bytes hold, and 160 for TOTAL
-unfoldable pub roomForPage : List ℕ → Bool
+abbrev pub roomForPage : List ℕ → Bool
 roomForPage buffer = leb 45_280 (length buffer)
 
 -- the text from the first place on, and no other byte changed; or nothing where there is no room

@@ -2,7 +2,7 @@
 use mathlib.Core.Path.{_≡_, subst}
 use mathlib.Core.Bool.{Bool, true, false, not, cond, _&&_}
 use mathlib.Core.List.{List, [], _∷_, _++_}
-use Prim.Native.Nat.{ℕ, _<_}
+use Prim.Native.Nat.{ℕ, _≤_, _<_}
 use native.Mathlib.Omega.{arith}
 use lib.Dec.{T, leb, ltb, eqb, leb→le, ltb→lt}
 use Rattle.rules.specs.declared.Record.{Record}
@@ -41,15 +41,22 @@ not-not : (b : Bool) → T (not (not b)) → T b
 not-not true t = tt
 not-not false t = t
 
-accepted-budget : (r : Record) (words : ℕ) → searchRefusal r words ≡ 0 → 0 < r .budget
+-- the budget is in its range
+pub budget-range : (r : Record) (words : ℕ) → searchRefusal r words ≡ 0 → (1 ≤ r .budget) × (r .budget ≤ 1_000_000)
 unfolding searchRefusal
-accepted-budget r words e = leb→le 1 (r .budget) (and-both (leb 1 (r .budget)) (leb (r .budget) 1_000_000) (not-not (isBudget (r .budget)) (none .1 .1 .1 .1 .1 .0)) .0)
+budget-range r words e = (leb→le 1 (r .budget) (both .0), leb→le (r .budget) 1_000_000 (both .1))
   where
     cases : List Case
     cases = recordCases r ++ (record { number = 7; due = not (isQueue words) } ∷ [])
 
     none : NoneDue cases
     none = first-none cases tt e
+
+    both : T (leb 1 (r .budget)) × T (leb (r .budget) 1_000_000)
+    both = and-both (leb 1 (r .budget)) (leb (r .budget) 1_000_000) (not-not (isBudget (r .budget)) (none .1 .1 .1 .1 .1 .0))
+
+accepted-budget : (r : Record) (words : ℕ) → searchRefusal r words ≡ 0 → 0 < r .budget
+accepted-budget r words e = omega (arith, budget-range r words e .0)
 
 -- ---- what an accepted search answers is kept; `Kept` of a refusal is absurd, so it is an answer
 pub record-kernel : (r : Record) (words : ℕ) → HasKernel (query r words)

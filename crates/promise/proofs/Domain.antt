@@ -2,9 +2,9 @@
 use mathlib.Core.Path.{_≡_, sym, ap, _∙_}
 use mathlib.Core.Bool.{Bool, true, false, not, _&&_, _||_}
 use Prim.Native.Nat.{ℕ, _+_, _*_, _-_, _^_, _≤_, _<_}
-use native.Mathlib.Nat.{le-trans, le-of-lt, mul-comm, mul-add, mul-le-mul-right, le-of-mul-le-mul-left}
+use native.Mathlib.Nat.{le-trans, le-of-lt, mul-comm, mul-add, mul-le-mul-right, mul-lt-mul-of-pos-right, le-of-mul-le-mul-left}
 use native.Mathlib.Omega.{arith}
-use lib.Pow.{pow-add}
+use lib.Pow.{pow-add, pow-pos}
 use lib.Dec.{T, leb, leb→le, le→leb}
 use Rattle.rules.specs.declared.Record.{Record}
 use Rattle.rules.specs.Numbers.{parts}
@@ -82,6 +82,17 @@ low-parts k i h g = le-trans (mul-le-mul-right (side k) (le-of-lt g)) (whole (sy
 
     whole : 2 ^ k * side k ≡ 2 ^ 20 → 2 ^ k * side k ≤ parts
     whole e = omega arith
+
+-- and below the end: the last cell begins before it
+pub low-below : (k i : ℕ) → k ≤ 20 → i < 2 ^ k → low k i < parts
+low-below k i h g =
+    let e : 2 ^ k * side k ≡ 2 ^ 20 = sym (pow-add 2 k (20 - k)) ∙ ap (λ (n : ℕ). 2 ^ n) (sum k h) in
+    let p : 0 < side k = pow-pos (20 - k) in
+    let l : low k i < 2 ^ k * side k = mul-lt-mul-of-pos-right g p in
+    omega arith
+  where
+    sum : (k : ℕ) → k ≤ 20 → k + (20 - k) ≡ 20
+    sum k h = omega arith
 
 pub low-domain : (S : Query) (k : Depths) (b : Box) → S .deepest ≤ 20 → Shallow S k → InGrid k b → T (inside S k b) → Domain S (lowPlace k b)
 unfolding inside

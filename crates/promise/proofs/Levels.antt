@@ -1,5 +1,5 @@
 -- The search, level by level: what holds of a level holds of the next, and so every answer is kept; 61 levels are enough.
-use mathlib.Core.Path.{_≡_, sym, ap, _∙_}
+use mathlib.Core.Path.{_≡_, refl, sym, ap, _∙_}
 use mathlib.Core.Logic.{inl, inr}
 use mathlib.Core.Bool.{Bool, true, false, not}
 use mathlib.Core.List.{List, [], _∷_}
@@ -33,11 +33,20 @@ module _ (S : Query) where
   abbrev pub Sides : ℕ → Type 0
   Sides n = (m : ℕ) × (n ≡ m * side (S .deepest))
 
+  -- the low corner of a box of the search, with the excess there
+  pub record Cornered (t u v excess : ℕ) : Type 0 where
+    pub depths : Depths
+    pub index : Box
+    pub shallow : Shallow S depths
+    pub grid : InGrid depths index
+    pub is : corner S depths index ≡ record { t = t; u = u; v = v; excess = excess }
+
   pub record Moment (t u v excess : ℕ) : Type 0 where
     pub no-earlier : (m : Place) → Domain S m → Close S m → t * m .q ≤ m .a * parts
     pub domain : Domain S (record { q = parts; a = t; b = u; c = v })
     pub size : (axis : Axis) → natAbs (S .gap axis parts t u v) ≤ (S .separation axis + excess) * unit
     pub sides : Sides t × (Sides u × Sides v)
+    pub cornered : Cornered t u v excess
 
   abbrev pub Kept : Answer → Type 0
   Kept (Met t u v excess n) = Moment t u v excess × (excess ≤ S .tolerance)
@@ -91,6 +100,7 @@ module _ (S : Query) (H : HasKernel S) (deep : S .deepest ≤ 20) where
         domain = low-domain S k b deep (L .shallow) (L .grid .0 .0) (L .grid .0 .1);
         size = low-size S k b;
         sides = (low-sides (b .t) (L .shallow .t), (low-sides (b .u) (L .shallow .u), low-sides (b .v) (L .shallow .v)));
+        cornered = record { depths = k; index = b; shallow = L .shallow; grid = L .grid .0 .0; is = refl };
       }
 
   -- the level after it

@@ -13,7 +13,9 @@ pub mod Corner
 pub mod Ordered
 pub mod Levels
 pub mod Accepted
+pub mod Counted
 pub mod Demands
+pub mod Log
 pub mod Sharp
 pub mod Old
 pub mod Bodies

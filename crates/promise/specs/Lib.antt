@@ -4,3 +4,4 @@ pub mod OldRules
 pub mod Bodies
 pub mod Why
 pub mod Order
+pub mod Log

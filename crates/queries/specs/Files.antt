@@ -1,9 +1,11 @@
 -- Whole files.
---     trailer-opens            bytes with a trailer of a form behind them open by it
---     file-opens               free bytes, a list of records and a trailer of an edition open to it and to exactly so many records, from the first on
---     written-file             records and a trailer put one behind another are such a file
---     file-fetch, file-past    record k is the k-th of the list, beside its own refusal; past the last there is none
--- Of either edition. Assumes nothing.
+--     trailer-opens               bytes with a trailer of a form behind them open by it
+--     formed-opens, formed-read   free bytes, a list of records and a trailer of a form open to exactly so many records, from the first on, and they are that list
+--     formed-once                 no two lists, and no two runs of free bytes, are the same file
+--     written-file                records and a trailer put one behind another are such a file
+--     file-opens                  a query file opens to its edition and to its records
+--     file-fetch, file-past       record k is the k-th of the list, beside its own refusal; past the last there is none
+-- The first five of every form, the others of every edition of the query file. Assumes nothing.
 use Prim.Native.Nat.{ℕ, zero, suc, _+_, _-_, _*_, _≤_, _<_}
 use mathlib.Core.Path.{_≡_, refl, sym, ap, _∙_}
 use mathlib.Core.Bool.{Bool, true, false, cond, _||_}
@@ -12,18 +14,19 @@ use native.Mathlib.Omega.{arith}
 use borrow.Author.Tests.{eq-eqb, eqb-true, le-ltb}
 use lib.Dec.{eqb}
 use lib.ListN.{length, getD, take, drop, length-append, drop-of-length-le}
-use lib.Seq.{getD-append-add, drop-at, drop-drop, drop-append-add, drop-append-seam}
+use lib.Seq.{getD-append-add, take-at, drop-at, drop-drop, drop-append-add, drop-append-seam}
 use Rattle.rules.specs.declared.Record.{Record}
 use Rattle.rules.specs.declared.Form.{Form}
+use Rattle.rules.specs.declared.Opened.{Opened}
 use Rattle.rules.specs.declared.Opened.the-variants.{Records}
 use Rattle.rules.specs.Refusals.{first, recordRefusal}
-use Rattle.rules.specs.QueryFile.{word, wordBytes, stands, isEdition, isWide, recordSize, recordBy, recordAt, recordBytes, queryForm, editionFor, editionOf, fileForm, editionBytes, trailerBytes, recordsBytes, fileBytes, openRefusal, openUnless, opened, noRecord, fetchUnless, fetched, put}
+use Rattle.rules.specs.QueryFile.{word, wordBytes, stands, isEdition, isWide, recordSize, recordAt, recordBytes, queryForm, editionFor, editionOf, fileForm, editionBytes, trailerBytes, joined, readFrom, formBytes, fileBytes, openRefusal, openUnless, opened, noRecord, fetchUnless, fetched, put}
 use Rattle.little.specs.Word.{length-word, word-at}
 use Rattle.little.specs.Stands.{stands-there}
-use Rattle.queries.specs.Sizes.{size-zero, size-suc, few-size}
+use Rattle.queries.specs.Sizes.{few-size}
 use Rattle.queries.specs.Opening.{Holds, opened-records, reach-index, reach-good}
-use Rattle.queries.specs.Held.{Held}
-use Rattle.queries.specs.RoundTrip.{length-record, record-drop, front}
+use Rattle.queries.specs.Layout.{Layout, All, length-joined, read-joined, record-in}
+use Rattle.queries.specs.RoundTrip.{HeldIn, layout}
 
 -- ---- a trailer
 open-good : (form : Form) (s : List ℕ) (t n : ℕ) → t + 16 ≡ length s → stands s t (form .mark) ≡ true → stands s (t + 4) (editionBytes form) ≡ true
@@ -82,46 +85,62 @@ module _ (form : Form) (n : ℕ) (four-long : length (form .mark) ≡ 4) where
       (word-at s _ (t + 12) n (part 12 ∙ after12) (omega arith))
       few room
 
--- ---- a list of records
-abbrev pub AllHeld : ℕ → List Record → Type 0
-AllHeld edition [] = Unit {0}
-AllHeld edition (r ∷ rs) = Held (isWide edition) r × (r .edition ≡ edition) × AllHeld edition rs
+-- ---- a file of a form
+module _ {form : Form} {R : Type 0} (w : Layout form R) where
+  length-front : (free : List ℕ) (rs : List R) → All (w .Held) rs → length (free ++ joined (w .bytes) rs) ≡ length free + form .size * length rs
+  length-front free rs all = omega (arith, length-append free (joined (w .bytes) rs), length-joined w rs all)
 
-pub length-records : (edition : ℕ) (rs : List Record) → AllHeld edition rs → length (recordsBytes edition rs) ≡ recordSize edition * length rs
-unfolding recordsBytes
-length-records edition [] h = sym (size-zero (isWide edition))
-length-records edition (r ∷ rs) h =
-    length-append (recordBytes edition r) (recordsBytes edition rs)
-    ∙ (λ i. length-record (isWide edition) r (h .0) i + length-records edition rs (h .2) i)
-    ∙ sym (size-suc (isWide edition) (length rs))
+  module _ (free : List ℕ) (rs : List R) (all : All (w .Held) rs) where
+    pub formed-opens : length rs ≤ 4096 → opened form (formBytes form (w .bytes) free rs) ≡ Records (form .edition) (length free) (length rs)
+    unfolding formBytes
+    formed-opens few =
+        let before = free ++ joined (w .bytes) rs in
+        let l = length-front free rs all in
+        let e : length before - form .size * length rs ≡ length free = omega arith in
+        trailer-opens form (length rs) (w .four-long) before few (few-size (form .size) (length rs) (w .small) few) (omega arith)
+        ∙ ap (λ (p : ℕ). Records (form .edition) p (length rs)) e
 
--- record k stands behind k records
-pub record-in : (edition : ℕ) (rs : List Record) (k : ℕ) (before rest : List ℕ) → AllHeld edition rs → k < length rs
-    → recordAt edition (before ++ recordsBytes edition rs ++ rest) (length before + recordSize edition * k) ≡ getD rs k noRecord
-unfolding recordsBytes
-record-in edition [] k before rest h l = absurd (omega arith)
-record-in edition (r ∷ rs) zero before rest h l =
-    let bytes = recordsBytes edition rs in
-    let s = before ++ (recordBytes edition r ++ bytes) ++ rest in
-    let e : s ≡ before ++ (recordBytes edition r ++ (bytes ++ rest)) = simp append-assoc in
-    let p : length before + recordSize edition * 0 ≡ length before = omega (arith, size-zero (isWide edition)) in
-    ap (recordAt edition s) p
-    ∙ sym (record-drop (isWide edition) edition s (length before))
-    ∙ ap (λ (x : List ℕ). recordAt edition (drop (length before) x) 0) e
-    ∙ ap (λ (x : List ℕ). recordAt edition x 0) (drop-append-seam before (recordBytes edition r ++ (bytes ++ rest)))
-    ∙ ap (λ (e : ℕ). recordBy (isWide edition) e (recordBytes edition r ++ (bytes ++ rest)) 0) (sym (h .1))
-    ∙ front (isWide edition) r (bytes ++ rest) (h .0)
-record-in edition (r ∷ rs) (suc k) before rest h l =
-    let one = recordBytes edition r in
-    let bytes = recordsBytes edition rs in
-    let e : before ++ (one ++ bytes) ++ rest ≡ before ++ one ++ bytes ++ rest = simp append-assoc in
-    let p : length before + recordSize edition * suc k ≡ length (before ++ one) + recordSize edition * k =
-    omega (arith, length-append before one, length-record (isWide edition) r (h .0), size-suc (isWide edition) k) in
-    ap (λ (x : List ℕ). recordAt edition x (length before + recordSize edition * suc k)) e
-    ∙ ap (recordAt edition (before ++ one ++ bytes ++ rest)) p
-    ∙ record-in edition rs k (before ++ one) rest (h .2) (omega arith)
+    pub formed-read : readFrom (w .read) (form .size) (formBytes form (w .bytes) free rs) (length free) (length rs) ≡ rs
+    unfolding formBytes
+    formed-read = read-joined w rs free (trailerBytes form (length rs)) all
 
--- ---- a file of them
+    pub formed-record : (none : R) (k : ℕ) → k < length rs → w .read (formBytes form (w .bytes) free rs) (length free + form .size * k) ≡ getD rs k none
+    unfolding formBytes
+    formed-record none k h = record-in w rs none k free (trailerBytes form (length rs)) all h
+
+    pub formed-free : take (length free) (formBytes form (w .bytes) free rs) ≡ free
+    unfolding formBytes
+    formed-free =
+        ap (take (length free)) (append-assoc free (joined (w .bytes) rs) (trailerBytes form (length rs)))
+        ∙ take-at free (joined (w .bytes) rs ++ trailerBytes form (length rs)) (length free) refl
+
+  pub formed-once : (free free′ : List ℕ) (rs rs′ : List R) → All (w .Held) rs → All (w .Held) rs′ → length rs ≤ 4096 → length rs′ ≤ 4096
+      → formBytes form (w .bytes) free rs ≡ formBytes form (w .bytes) free′ rs′ → (free ≡ free′) × (rs ≡ rs′)
+  formed-once free free′ rs rs′ all all′ few few′ e =
+      let o : Records (form .edition) (length free) (length rs) ≡ Records (form .edition) (length free′) (length rs′) =
+      sym (formed-opens free rs all few) ∙ ap (opened form) e ∙ formed-opens free′ rs′ all′ few′ in
+      let p : length free ≡ length free′ = cc in
+      let n : length rs ≡ length rs′ = cc in (
+        sym (formed-free free rs all) ∙ (λ i. take (p i) (e i)) ∙ formed-free free′ rs′ all′,
+        sym (formed-read free rs all) ∙ (λ i. readFrom (w .read) (form .size) (e i) (p i) (n i)) ∙ formed-read free′ rs′ all′,
+      )
+
+  -- records and a trailer put one behind another up to a buffer's end are a file of them
+  pub written-file : (s : List ℕ) (at : ℕ) (rs : List R) → All (w .Held) rs → at + form .size * length rs + 16 ≡ length s
+      → put s at (joined (w .bytes) rs ++ trailerBytes form (length rs)) ≡ formBytes form (w .bytes) (take at s) rs
+  unfolding put formBytes
+  written-file s at rs all e =
+      let tail = trailerBytes form (length rs) in
+      let bytes = joined (w .bytes) rs ++ tail in
+      let l : length bytes ≡ form .size * length rs + 16 =
+      length-append (joined (w .bytes) rs) tail ∙ omega (arith, length-joined w rs all, length-trailer form (length rs) (w .four-long)) in
+      let past : length s ≤ at + length bytes = omega arith in
+      let end : drop (at + length bytes) s ≡ [] = drop-of-length-le s past in
+      ap (λ (x : List ℕ). take at s ++ bytes ++ x) end
+      ∙ append-nil (take at s ++ bytes)
+      ∙ sym (append-assoc (take at s) (joined (w .bytes) rs) tail)
+
+-- ---- a query file
 named : (edition : ℕ) → isEdition edition ≡ true → editionFor edition ≡ edition
 named edition e = go (eqb edition 1) (eqb edition 2) (eqb edition 3) refl e
   where
@@ -131,13 +150,13 @@ named edition e = go (eqb edition 1) (eqb edition 2) (eqb edition 3) refl e
     go true false false f h = sym (eqb-true edition 1 f)
     go false false false f h = let z : _≡_ {A = ℕ} 0 1 = cc in absurd (omega arith)
 
-module _ (edition : ℕ) (free : List ℕ) (rs : List Record) (is : isEdition edition ≡ true) (all : AllHeld edition rs) (few : length rs ≤ 4096) where
+module _ (edition : ℕ) (free : List ℕ) (rs : List Record) (is : isEdition edition ≡ true) (all : All (HeldIn edition) rs) (few : length rs ≤ 4096) where
   before : List ℕ
-  before = free ++ recordsBytes edition rs
+  before = free ++ joined (recordBytes edition) rs
 
   -- its trailer names its edition
   pub file-edition : editionOf (fileBytes edition free rs) ≡ edition
-  unfolding fileBytes before trailerBytes
+  unfolding formBytes before trailerBytes
   file-edition =
       let tail = trailerBytes (queryForm edition) (length rs) in
       let t : length (before ++ tail) - 16 ≡ length before = omega (arith, length-append before tail, length-trailer (queryForm edition) (length rs) refl) in
@@ -145,18 +164,7 @@ module _ (edition : ℕ) (free : List ℕ) (rs : List Record) (is : isEdition ed
       ap (λ (n : ℕ). editionFor (getD (before ++ tail) (n + 4) 0)) t ∙ ap editionFor there ∙ named edition is
 
   pub file-opens : opened (fileForm (fileBytes edition free rs)) (fileBytes edition free rs) ≡ Records edition (length free) (length rs)
-  unfolding fileBytes before
-  file-opens =
-      let size = recordSize edition * length rs in
-      let l : length before ≡ length free + size = omega (arith, length-append free (recordsBytes edition rs), length-records edition rs all) in
-      let e : length before - size ≡ length free = omega arith in
-      ap (λ (n : ℕ). opened (queryForm n) (fileBytes edition free rs)) file-edition
-      ∙ trailer-opens (queryForm edition) (length rs) refl before few (few-size (isWide edition) (length rs) few) (omega arith)
-      ∙ ap (λ (p : ℕ). Records edition p (length rs)) e
-
-  file-record : (k : ℕ) → k < length rs → recordAt edition (fileBytes edition free rs) (length free + recordSize edition * k) ≡ getD rs k noRecord
-  unfolding fileBytes
-  file-record k h = record-in edition rs k free (trailerBytes (queryForm edition) (length rs)) all h
+  file-opens = ap (λ (n : ℕ). opened (queryForm n) (fileBytes edition free rs)) file-edition ∙ formed-opens (layout edition) free rs all few
 
   pub file-holds : Holds (fileForm (fileBytes edition free rs)) (fileBytes edition free rs) edition (length free) (length rs)
   file-holds = opened-records (fileForm (fileBytes edition free rs)) (fileBytes edition free rs) edition (length free) (length rs) file-opens
@@ -165,23 +173,8 @@ module _ (edition : ℕ) (free : List ℕ) (rs : List Record) (is : isEdition ed
   unfolding fetched fetchUnless
   file-fetch k h =
       let s = fileBytes edition free rs in
-      rw (reach-good s k (file-holds .none) (omega (arith, file-holds .counts)), ← file-holds .starts, file-edition, file-record k h)
+      rw (reach-good (fileForm s) s k (file-holds .none) (omega (arith, file-holds .counts)), ← file-holds .starts, file-edition, formed-record (layout edition) free rs all noRecord k h)
 
   pub file-past : (k : ℕ) → length rs ≤ k → fetched (fileBytes edition free rs) k ≡ record { refusal = 13; query = noRecord }
   unfolding fetched fetchUnless
-  file-past k h = rw (reach-index (fileBytes edition free rs) k (file-holds .none) (omega (arith, file-holds .counts)))
-
--- records and a trailer put one behind another up to a buffer's end are a file of them
-pub written-file : (edition : ℕ) (s : List ℕ) (at : ℕ) (rs : List Record) → AllHeld edition rs → at + recordSize edition * length rs + 16 ≡ length s
-    → put s at (recordsBytes edition rs ++ trailerBytes (queryForm edition) (length rs)) ≡ fileBytes edition (take at s) rs
-unfolding put fileBytes
-written-file edition s at rs all e =
-    let tail = trailerBytes (queryForm edition) (length rs) in
-    let bytes = recordsBytes edition rs ++ tail in
-    let l : length bytes ≡ recordSize edition * length rs + 16 =
-    length-append (recordsBytes edition rs) tail ∙ omega (arith, length-records edition rs all, length-trailer (queryForm edition) (length rs) refl) in
-    let past : length s ≤ at + length bytes = omega arith in
-    let end : drop (at + length bytes) s ≡ [] = drop-of-length-le s past in
-    ap (λ (x : List ℕ). take at s ++ bytes ++ x) end
-    ∙ append-nil (take at s ++ bytes)
-    ∙ sym (append-assoc (take at s) (recordsBytes edition rs) tail)
+  file-past k h = let s = fileBytes edition free rs in rw (reach-index (fileForm s) s k (file-holds .none) (omega (arith, file-holds .counts)))

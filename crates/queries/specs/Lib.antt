@@ -3,6 +3,7 @@ pub mod Coordinates
 pub mod Sizes
 pub mod Opening
 pub mod Writing
+pub mod Layout
 pub mod Held
 pub mod RoundTrip
 pub mod Files

@@ -2,14 +2,15 @@
 --     ten-exactly                       the test of 10 is the one that document 02 words
 --     refused-open                      the answer of a refusal
 --     opened-refused, opened-records    what an answer says of the file
---     records-end, record-fits          the records of an edition end at the trailer, and each stands before it
+--     entry-fits                        each record of a form stands before the trailer; `records-end`, `record-fits` by the edition
 --     few-records                       how many records a short file has at most
+--     refused-first, opens-first        the file's own refusals come before any others
 --     reach-refused, -index, -good      the refusal of fetching, by the file's own and the index
 -- Assumes nothing.
 use Prim.Native.Nat.{ℕ, zero, suc, _+_, _-_, _*_, _<_, _≤_}
 use mathlib.Core.Path.{_≡_, refl, sym, ap, _∙_}
 use mathlib.Core.Bool.{Bool, true, false, not, cond, _&&_, _||_}
-use mathlib.Core.List.{List, [], _∷_}
+use mathlib.Core.List.{List, [], _∷_, _++_}
 use native.Mathlib.Omega.{arith}
 use borrow.Author.Tests.{eq-eqb, not-false, ltb-false, eqb-true, lt-ltb, le-ltb}
 use lib.Dec.{ltb, eqb}
@@ -18,7 +19,7 @@ use Rattle.rules.specs.declared.Record.{Record}
 use Rattle.rules.specs.declared.Form.{Form}
 use Rattle.rules.specs.declared.Opened.the-variants.{Records, Refused}
 use Rattle.rules.specs.Refusals.{Case, first, orElse}
-use Rattle.rules.specs.QueryFile.{stands, isEdition, isWide, recordSize, editionBytes, fileForm, trailerPlace, backPointer, recordCount, openCases, openRefusal, openUnless, opened, reachRefusal, noRecord, fetchUnless}
+use Rattle.rules.specs.QueryFile.{stands, isEdition, isWide, recordSize, editionBytes, fileForm, trailerPlace, backPointer, recordCount, openCases, openRefusal, openUnless, opened, index, reachRefusal, noRecord, fetchUnless}
 use Rattle.queries.specs.Sizes.{record-within, short-size}
 use Rattle.refusals.specs.Cases.{first-then, not-due}
 
@@ -105,8 +106,11 @@ opened-records form s edition place n e =
 pub records-end : {s : List ℕ} {edition place n : ℕ} → Holds (fileForm s) s edition place n → place + recordSize edition * n + 16 ≡ length s
 records-end {s} {edition} {place} {n} h = ap (λ (d : ℕ). place + recordSize d * n + 16) (h .names) ∙ h .ends
 
+pub entry-fits : {form : Form} {s : List ℕ} {edition place n : ℕ} → Holds form s edition place n → (k : ℕ) → k < n → place + form .size * k + form .size ≤ length s
+entry-fits {form} {s} {edition} {place} {n} h k l = record-within (form .size) place n k (length s) l (omega (arith, h .ends))
+
 pub record-fits : {s : List ℕ} {edition place n : ℕ} → Holds (fileForm s) s edition place n → (k : ℕ) → k < n → place + recordSize edition * k + recordSize edition ≤ length s
-record-fits {s} {edition} {place} {n} h k l = record-within (isWide edition) place n k (length s) l (omega (arith, records-end h))
+record-fits {s} {edition} {place} {n} h k l = record-within (recordSize edition) place n k (length s) l (omega (arith, records-end h))
 
 -- 65,536 bytes hold no more than 564 records, of either edition
 pub few-records : {s : List ℕ} {edition place n : ℕ} → Holds (fileForm s) s edition place n → length s ≤ 65536 → n ≤ 564
@@ -121,26 +125,30 @@ pub opened-refused : (form : Form) (s : List ℕ) (k : ℕ) → opened form s �
 unfolding opened
 opened-refused form s k e = refused (openRefusal form s) (form .edition) (trailerPlace s - backPointer s) (recordCount s) k e
 
+-- ---- the file's own refusals first, then others
+module _ (form : Form) (s : List ℕ) (more : List Case) where
+  pub refused-first : (k : ℕ) → openRefusal form s ≡ k → (k ≡ 0 → ⊥) → first (openCases form s ++ more) ≡ k
+  unfolding openRefusal
+  refused-first zero e h = absurd (h refl)
+  refused-first (suc k) e h = first-then (openCases form s) more tt ∙ ap (λ (m : ℕ). orElse m (first more)) e
+
+  pub opens-first : openRefusal form s ≡ 0 → first (openCases form s ++ more) ≡ first more
+  unfolding openRefusal
+  opens-first e = first-then (openCases form s) more tt ∙ ap (λ (m : ℕ). orElse m (first more)) e
+
 -- ---- reaching record n
-module _ (s : List ℕ) (n : ℕ) where
-  by-index : Bool → List Case
-  by-index due = record { number = 13; due = due } ∷ []
+module _ (form : Form) (s : List ℕ) (n : ℕ) where
+  pub reach-refused : (k : ℕ) → openRefusal form s ≡ k → (k ≡ 0 → ⊥) → reachRefusal form s n ≡ k
+  unfolding reachRefusal
+  reach-refused = refused-first form s (index s n ∷ [])
 
-  reach : reachRefusal s n ≡ orElse (openRefusal (fileForm s) s) (first (by-index (not (ltb n (recordCount s)))))
-  unfolding reachRefusal openRefusal by-index
-  reach = first-then (openCases (fileForm s) s) (by-index (not (ltb n (recordCount s)))) tt
+  pub reach-index : openRefusal form s ≡ 0 → recordCount s ≤ n → reachRefusal form s n ≡ 13
+  unfolding reachRefusal first
+  reach-index e h = opens-first form s (index s n ∷ []) e ∙ rw (le-ltb n (recordCount s) h)
 
-  pub reach-refused : (k : ℕ) → openRefusal (fileForm s) s ≡ k → (k ≡ 0 → ⊥) → reachRefusal s n ≡ k
-  reach-refused zero e h = absurd (h refl)
-  reach-refused (suc k) e h = reach ∙ ap (λ (m : ℕ). orElse m (first (by-index (not (ltb n (recordCount s)))))) e
-
-  pub reach-index : openRefusal (fileForm s) s ≡ 0 → recordCount s ≤ n → reachRefusal s n ≡ 13
-  unfolding first by-index
-  reach-index e h = reach ∙ rw (e, le-ltb n (recordCount s) h)
-
-  pub reach-good : openRefusal (fileForm s) s ≡ 0 → n < recordCount s → reachRefusal s n ≡ 0
-  unfolding first by-index
-  reach-good e h = reach ∙ rw (e, lt-ltb n (recordCount s) h)
+  pub reach-good : openRefusal form s ≡ 0 → n < recordCount s → reachRefusal form s n ≡ 0
+  unfolding reachRefusal first
+  reach-good e h = opens-first form s (index s n ∷ []) e ∙ rw (lt-ltb n (recordCount s) h)
 
 -- a number that is none of these, beside no record
 pub refused-fetch : (k : ℕ) (r : Record) → (k ≡ 0 → ⊥) → record { refusal = k; query = noRecord } ≡ fetchUnless k r

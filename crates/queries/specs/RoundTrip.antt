@@ -2,6 +2,7 @@
 --     read-back       what was put is read as the record; `written-back` of a writer's buffer, whatever the record that it did not refuse
 --     write-back      to put the record that stands at a place there again changes nothing
 --     same-record     no two records have the same bytes
+--     layout          an edition's layout, of which Layout.antt speaks; the files' laws are of it (Files.antt, Same.antt)
 -- All of any edition, by whether its record is wide. What is read is of the edition that it is read by. Assumes nothing.
 use Prim.Native.Nat.{ℕ, _+_, _*_, _≤_, _<_}
 use mathlib.Core.Path.{_≡_, refl, sym, ap, _∙_}
@@ -12,12 +13,13 @@ use native.Mathlib.Omega.{arith}
 use lib.ListN.{length, getD, take, drop, length-drop}
 use lib.Seq.{getD-drop, take-add}
 use Rattle.rules.specs.declared.Record.{Record}
-use Rattle.rules.specs.QueryFile.{word, wordBytes, coordinatesAt, coordinateBytes, isWide, sizeBy, recordSize, recordBy, recordAt, bytesBy, recordBytes, put, putUnless, inEdition, writeRefusal}
-use Rattle.little.specs.Put.{drop-put, put-same}
+use Rattle.rules.specs.QueryFile.{word, wordBytes, coordinatesAt, coordinateBytes, isWide, sizeBy, recordSize, recordBy, recordAt, bytesBy, recordBytes, queryForm, put, putUnless, inEdition, writeRefusal}
 use Rattle.little.specs.Word.{Bytes, word-drop, word-at, word-same, digits}
 use Rattle.queries.specs.Coordinates.{length-bytes, coordinates-drop, coordinates-back, coordinates-same}
 use Rattle.queries.specs.Writing.{write-room}
-use Rattle.queries.specs.Held.{Held, held, narrow, as-one}
+use Rattle.queries.specs.Layout.{Layout}
+use Rattle.queries.specs.Layout as each
+use Rattle.queries.specs.Held.{Held, held, narrow, as-one, read-held}
 
 -- ---- a record
 pub record-drop : (wide : Bool) (edition : ℕ) (s : List ℕ) (at : ℕ) → recordBy wide edition (drop at s) 0 ≡ recordBy wide edition s at
@@ -92,29 +94,6 @@ unfolding bytesBy
 same-as true edition r = refl
 same-as false edition r = refl
 
-front-as : (edition : ℕ) (r : Record) (t : List ℕ) → Held (isWide edition) r → recordAt edition (recordBytes edition r ++ t) 0 ≡ inEdition edition r
-front-as edition r t h =
-    ap (λ (l : List ℕ). recordAt edition (l ++ t) 0) (sym (same-as (isWide edition) edition r)) ∙ front (isWide edition) (inEdition edition r) t (as-one edition h)
-
-pub read-back : (edition : ℕ) (s : List ℕ) (at : ℕ) (r : Record) → Held (isWide edition) r → at + recordSize edition ≤ length s
-    → recordAt edition (put s at (recordBytes edition r)) at ≡ inEdition edition r
-read-back edition s at r h room =
-    sym (record-drop (isWide edition) edition (put s at (recordBytes edition r)) at)
-    ∙ ap (λ (l : List ℕ). recordAt edition l 0) (drop-put s at (recordBytes edition r) (omega (arith, length-record (isWide edition) r h)))
-    ∙ front-as edition r (drop (at + length (recordBytes edition r)) s) h
-
--- the buffer that a writer leaves when it is done: what it does not refuse is such a record
-pub written-back : (edition : ℕ) (s : List ℕ) (at : ℕ) (r : Record) → r .id < 4294967296 → length (r .points) ≡ 24 → writeRefusal edition s at r ≡ 0
-    → recordAt edition (putUnless (writeRefusal edition s at r) s at (recordBytes edition r)) at ≡ inEdition edition r
-unfolding putUnless
-written-back edition s at r i n e =
-    let w = write-room edition s at r e in
-    let h = held (isWide edition) (inEdition edition r) (w .accepted) (narrow r w) i n in
-    rw e (ap (λ (l : List ℕ). recordAt edition (put s at l) at) (sym (same-as (isWide edition) edition r)) ∙ read-back edition s at (inEdition edition r) h (w .room))
-
-pub same-record : (edition : ℕ) (r r′ : Record) → Held (isWide edition) r → Held (isWide edition) r′ → recordBytes edition r ≡ recordBytes edition r′ → inEdition edition r ≡ inEdition edition r′
-same-record edition r r′ h h′ e = sym (front-as edition r [] h) ∙ ap (λ (l : List ℕ). recordAt edition (l ++ []) 0) e ∙ front-as edition r′ [] h′
-
 -- ---- the bytes of a record that stands in bytes
 first-word : (s : List ℕ) → Bytes s → 4 ≤ length s → wordBytes (getD s 0 0 + 256 * getD s 1 0 + 65536 * getD s 2 0 + 16777216 * getD s 3 0) ≡ take 4 s
 unfolding word
@@ -178,11 +157,63 @@ same-bytes false edition s b h =
 bytes-drop : (s : List ℕ) (at : ℕ) → Bytes s → Bytes (drop at s)
 bytes-drop s at b i = rw (getD-drop at s i 0) (b (at + i))
 
-module _ (edition : ℕ) (s : List ℕ) (at : ℕ) (b : Bytes s) (room : at + recordSize edition ≤ length s) where
-  pub record-bytes : recordBytes edition (recordAt edition s at) ≡ take (recordSize edition) (drop at s)
-  record-bytes =
-      ap (recordBytes edition) (sym (record-drop (isWide edition) edition s at))
-      ∙ same-bytes (isWide edition) edition (drop at s) (bytes-drop s at b) (simp length-drop (omega arith))
+-- ---- the layout of an edition, and what Layout.antt says of it
 
-  pub write-back : put s at (recordBytes edition (recordAt edition s at)) ≡ s
-  write-back = ap (put s at) record-bytes ∙ put-same s at (recordSize edition) room
+-- held, and of that edition
+abbrev pub HeldIn : ℕ → Record → Type 0
+HeldIn edition r = Held (isWide edition) r × (r .edition ≡ edition)
+
+pub one-byte : (wide : Bool) → sizeBy wide < 256
+one-byte true = omega arith
+one-byte false = omega arith
+
+pub front-in : (edition : ℕ) (r : Record) (t : List ℕ) → HeldIn edition r → recordAt edition (recordBytes edition r ++ t) 0 ≡ r
+front-in edition r t h = ap (λ (e : ℕ). recordBy (isWide edition) e (recordBytes edition r ++ t) 0) (sym (h .1)) ∙ front (isWide edition) r t (h .0)
+
+pub record-bytes : (edition : ℕ) (s : List ℕ) (at : ℕ) → Bytes s → at + recordSize edition ≤ length s → recordBytes edition (recordAt edition s at) ≡ take (recordSize edition) (drop at s)
+record-bytes edition s at b room =
+    ap (recordBytes edition) (sym (record-drop (isWide edition) edition s at))
+    ∙ same-bytes (isWide edition) edition (drop at s) (bytes-drop s at b) (simp length-drop (omega arith))
+
+pub read-in : (edition : ℕ) (s : List ℕ) (at : ℕ) → Bytes s → HeldIn edition (recordAt edition s at)
+unfolding recordBy
+read-in edition s at b = (read-held (isWide edition) edition s at b, refl)
+
+abbrev pub layout : (edition : ℕ) → Layout (queryForm edition) Record
+layout edition =
+    record {
+      bytes = recordBytes edition;
+      read = recordAt edition;
+      Held = HeldIn edition;
+      four-long = refl;
+      small = one-byte (isWide edition);
+      long = λ r h. length-record (isWide edition) r (h .0);
+      read-drop = record-drop (isWide edition) edition;
+      front = front-in edition;
+      same = record-bytes edition;
+      read-held = read-in edition;
+    }
+
+-- a record is written as one of the edition that the writer is told
+pub read-back : (edition : ℕ) (s : List ℕ) (at : ℕ) (r : Record) → Held (isWide edition) r → at + recordSize edition ≤ length s
+    → recordAt edition (put s at (recordBytes edition r)) at ≡ inEdition edition r
+read-back edition s at r h room =
+    ap (λ (l : List ℕ). recordAt edition (put s at l) at) (sym (same-as (isWide edition) edition r))
+    ∙ each.read-back (layout edition) s at (inEdition edition r) (as-one edition h, refl) room
+
+-- the buffer that a writer leaves when it is done: what it does not refuse is such a record
+pub written-back : (edition : ℕ) (s : List ℕ) (at : ℕ) (r : Record) → r .id < 4294967296 → length (r .points) ≡ 24 → writeRefusal edition s at r ≡ 0
+    → recordAt edition (putUnless (writeRefusal edition s at r) s at (recordBytes edition r)) at ≡ inEdition edition r
+unfolding putUnless
+written-back edition s at r i n e =
+    let w = write-room edition s at r e in
+    let h = held (isWide edition) (inEdition edition r) (w .accepted) (narrow r w) i n in
+    rw e (ap (λ (l : List ℕ). recordAt edition (put s at l) at) (sym (same-as (isWide edition) edition r)) ∙ read-back edition s at (inEdition edition r) h (w .room))
+
+pub same-record : (edition : ℕ) (r r′ : Record) → Held (isWide edition) r → Held (isWide edition) r′ → recordBytes edition r ≡ recordBytes edition r′ → inEdition edition r ≡ inEdition edition r′
+same-record edition r r′ h h′ e =
+    each.same-record (layout edition) (inEdition edition r) (inEdition edition r′) (as-one edition h, refl) (as-one edition h′, refl)
+    (same-as (isWide edition) edition r ∙ e ∙ sym (same-as (isWide edition) edition r′))
+
+pub write-back : (edition : ℕ) (s : List ℕ) (at : ℕ) → Bytes s → at + recordSize edition ≤ length s → put s at (recordBytes edition (recordAt edition s at)) ≡ s
+write-back edition = each.write-back (layout edition)

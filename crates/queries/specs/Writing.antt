@@ -1,6 +1,7 @@
 -- Laws of the writers.
 --     refused-write, done-write    a writer's answer and the bytes after it, by its refusal
 --     written-once                 and there is no other
+--     Puts                         the same as a number; `refuses-put`, `does-put`; and `puts-once`
 --     write-is, write-room         the refusal of a record, as the code makes it, and what none says
 --     trailer-room                 what no refusal of a trailer says
 --     trailer-edition              the refusal of a query file's trailer, by its edition
@@ -37,6 +38,27 @@ module _ (n : ℕ) (s : List ℕ) (at : ℕ) (bytes : List ℕ) where
   -- no second answer and no second buffer fits
   pub written-once : (x y : List ℕ) (v w : Wrote) → Written n s at bytes x v → Written n s at bytes y w → (x ≡ y) × (v ≡ w)
   written-once x y v w p q = (p .leaves ∙ sym (q .leaves), p .says ∙ sym (q .says))
+
+-- the same as a number: 0 where it is done
+pub record Puts (refusal : ℕ) (bytes out : List ℕ) (at : ℕ) (out′ : List ℕ) (number : ℕ) : Type 0 where
+  pub says : number ≡ refusal
+  pub leaves : out′ ≡ putUnless number out at bytes
+
+-- no second number and no second buffer fit that
+pub puts-once : {refusal : ℕ} {bytes out : List ℕ} {at : ℕ} {out′ out″ : List ℕ} {number number′ : ℕ}
+    → Puts refusal bytes out at out′ number
+    → Puts refusal bytes out at out″ number′
+    → (number ≡ number′) × (out′ ≡ out″)
+puts-once v w = (cc, cc)
+
+pub refuses-put : {refusal : ℕ} (number : ℕ) (bytes out : List ℕ) (at : ℕ) → number ≡ refusal → (number ≡ 0 → ⊥) → Puts refusal bytes out at out number
+unfolding putUnless
+refuses-put zero bytes out at e h = absurd (h refl)
+refuses-put (suc k) bytes out at e h = record { says = e; leaves = refl }
+
+pub does-put : {refusal : ℕ} {bytes out : List ℕ} {at : ℕ} {out′ : List ℕ} → 0 ≡ refusal → out′ ≡ put out at bytes → Puts refusal bytes out at out′ 0
+unfolding putUnless
+does-put e p = record { says = e; leaves = p }
 
 -- ---- a record
 pub record WriteRoom (edition : ℕ) (s : List ℕ) (at : ℕ) (r : Record) : Type 0 where

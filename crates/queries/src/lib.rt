@@ -81,7 +81,7 @@ fn query_form(edition: u8) -> Form
 }
 
 // How many of `n` bytes stand from `at` on: none past the end.
-fn left_from(n: usize, at: usize) -> usize
+pub fn left_from(n: usize, at: usize) -> usize
     ensures { λ r. ⌜ r ≡ n - at ⌝ }
 {
     if at <= n { n - at } else { 0 }
@@ -103,11 +103,19 @@ fn edition_of(s: &[u8]) -> u8
     if is_wide(named) { named } else { 1 }
 }
 
+// The form that a query file is read by.
+pub fn file_form(s: &[u8]) -> Form
+    ensures { λ r. ⌜ r ≡ fileForm (now (s .entry)) ⌝ }
+{
+    let edition = edition_of(s);
+    query_form(edition)
+}
+
 pub fn open_file(s: &[u8]) -> Opened
     ensures { λ r. ⌜ r ≡ opened (fileForm (now (s .entry))) (now (s .entry)) ⌝ }
 {
-    let edition = edition_of(s);
-    open_form(s, query_form(edition))
+    let form = file_form(s);
+    open_form(s, form)
 }
 
 // ---- fetching
@@ -207,7 +215,7 @@ pub fn write_record(s: &mut [u8], at: usize, edition: u8, r: Record) -> Wrote
     Wrote::Done
 }
 
-fn encode_trailer(s: &mut [u8], at: usize, form: Form, count: u32)
+pub fn encode_trailer(s: &mut [u8], at: usize, form: Form, count: u32)
     requires { ⌜ (at + 16 ≤ length (now s)) × (count ≤ 4096) ⌝ }
     ensures { λ _. ⌜ now (s .exit) ≡ put (now (s .entry)) at (trailerBytes form count) ⌝ }
 {

@@ -4,7 +4,7 @@ use mathlib.Core.Bool.{Bool, true, false, not, cond}
 use mathlib.Core.List.{List, [], _∷_, _++_}
 use Prim.Native.Nat.{ℕ, zero, suc, _≤_}
 use native.Mathlib.Omega.{arith}
-use lib.Dec.{ltb, leb}
+use lib.Dec.{leb}
 use lib.ListN.{length, replicate}
 use borrow.Author.Tests.{ne-eqb}
 use Rattle.rules.specs.declared.Record.{Record}
@@ -13,7 +13,7 @@ use Rattle.rules.specs.declared.Ruling.{Ruling}
 use Rattle.rules.specs.declared.Reason.{Reason}
 use Rattle.rules.specs.declared.Ruling.the-variants.{Discarded, Refused}
 use Rattle.rules.specs.Refusals.{first, orElse, recordCases, recordRefusal, searchRefusal}
-use Rattle.rules.specs.QueryFile.{recordAt, editionOf, placeOf, fileForm, recordCount, openCases, reachRefusal, fetchUnless, fetched, put, putUnless}
+use Rattle.rules.specs.QueryFile.{recordAt, editionOf, placeOf, fileForm, index, openCases, reachRefusal, fetchUnless, fetched, put, putUnless}
 use Rattle.rules.specs.Search.{search}
 use Rattle.rules.specs.Why.{inDomain, isBefore, askRefusal, whyRefusal, unlessWhy, whySearch, whyQueueAfter, nine, toldWhy}
 use Rattle.descent.proofs.Refusing.{first-most, few, cleared}
@@ -26,15 +26,15 @@ own-few : (r : Record) → recordRefusal r ≤ 22
 unfolding recordRefusal
 own-few r = first-most 22 (recordCases r) (omega arith, (omega arith, (omega arith, (omega arith, (omega arith, (omega arith, (omega arith, tt)))))))
 
-reach-few : (file : List ℕ) (n : ℕ) → reachRefusal file n ≤ 22
+reach-few : (file : List ℕ) (n : ℕ) → reachRefusal (fileForm file) file n ≤ 22
 unfolding reachRefusal
 reach-few file n =
-    first-most 22 (openCases (fileForm file) file ++ (record { number = 13; due = not (ltb n (recordCount file)) } ∷ []))
+    first-most 22 (openCases (fileForm file) file ++ (index file n ∷ []))
     (omega arith, (omega arith, (omega arith, (omega arith, (omega arith, (omega arith, tt))))))
 
 fetched-few : (file : List ℕ) (n : ℕ) → fetched file n .refusal ≤ 22
 unfolding fetched fetchUnless
-fetched-few file n = go (reachRefusal file n) (reach-few file n)
+fetched-few file n = go (reachRefusal (fileForm file) file n) (reach-few file n)
   where
     go : (k : ℕ) → k ≤ 22 → fetchUnless k (recordAt (editionOf file) file (placeOf file n)) .refusal ≤ 22
     go zero h = own-few (recordAt (editionOf file) file (placeOf file n))

@@ -5,6 +5,8 @@ pub mod Answers
 pub mod Refusals
 pub mod Search
 pub mod QueryFile
+pub mod AnswerFile
+pub mod AnswerExamples
 pub mod Berth
 pub mod Bodies
 pub mod BodyExamples

@@ -1,4 +1,5 @@
--- Document 01, "The query file", and rows 8 to 14 of the table with their orders; both editions of document 02, R-4.
+-- Document 01, "The query file", and rows 8 to 14 of the table with their orders; every edition of document 02.
+-- What an answer file shares with it is said of any form: a mark, an edition and the bytes that one record takes.
 use Prim.Native.Nat.{ℕ, zero, suc, _+_, _-_, _*_, _/_, _%_}
 use mathlib.Core.Path.{_≡_}
 use mathlib.Core.Bool.{Bool, true, false, not, cond, _&&_, _||_}
@@ -119,13 +120,23 @@ editionBytes form = form .edition ∷ 0 ∷ 0 ∷ 0 ∷ []
 unfoldable pub trailerBytes : Form → ℕ → List ℕ
 trailerBytes form count = form .mark ++ editionBytes form ++ wordBytes (form .size * count) ++ wordBytes count
 
-unfoldable pub recordsBytes : ℕ → List Record → List ℕ
-recordsBytes edition [] = []
-recordsBytes edition (r ∷ rs) = recordBytes edition r ++ recordsBytes edition rs
+-- records one behind another, by the bytes of each
+unfoldable pub joined : {R : Type 0} → (R → List ℕ) → List R → List ℕ
+joined bytes [] = []
+joined bytes (r ∷ rs) = bytes r ++ joined bytes rs
 
--- "Free leading bytes, then records of 116 bytes, then a trailer of 16 bytes ending the file", of an edition
-unfoldable pub fileBytes : ℕ → List ℕ → List Record → List ℕ
-fileBytes edition free rs = free ++ recordsBytes edition rs ++ trailerBytes (queryForm edition) (length rs)
+-- "Free leading bytes, then records of 116 bytes, then a trailer of 16 bytes ending the file", of a form
+unfoldable pub formBytes : {R : Type 0} → Form → (R → List ℕ) → List ℕ → List R → List ℕ
+formBytes form bytes free rs = free ++ joined bytes rs ++ trailerBytes form (length rs)
+
+-- so many records from `at` on, by how one is read and the bytes that it takes
+unfoldable pub readFrom : {R : Type 0} → (List ℕ → ℕ → R) → ℕ → List ℕ → ℕ → ℕ → List R
+readFrom read size s at zero = []
+readFrom read size s at (suc n) = read s at ∷ readFrom read size s (at + size) n
+
+-- a query file of an edition
+abbrev pub fileBytes : ℕ → List ℕ → List Record → List ℕ
+fileBytes edition = formBytes (queryForm edition) (recordBytes edition)
 
 -- ---- opening
 
@@ -172,13 +183,20 @@ opened form s = openUnless (openRefusal form s) (form .edition) (trailerPlace s 
 
 -- ---- fetching record n
 
--- where it stands in a file that opens
-abbrev pub placeOf : List ℕ → ℕ → ℕ
-placeOf s n = trailerPlace s - backPointer s + recordSize (editionOf s) * n
+-- where it stands in a file of a form that opens
+abbrev pub placeIn : Form → List ℕ → ℕ → ℕ
+placeIn form s n = trailerPlace s - backPointer s + form .size * n
 
--- 8 to 12, then 13 INDEX, "record number not below the count"
-unfoldable pub reachRefusal : List ℕ → ℕ → ℕ
-reachRefusal s n = first (openCases (fileForm s) s ++ (record { number = 13; due = not (ltb n (recordCount s)) } ∷ []))
+abbrev pub placeOf : List ℕ → ℕ → ℕ
+placeOf s = placeIn (fileForm s) s
+
+-- 13 INDEX, "record number not below the count"
+abbrev pub index : List ℕ → ℕ → Case
+index s n = record { number = 13; due = not (ltb n (recordCount s)) }
+
+-- 8 to 12, then 13
+unfoldable pub reachRefusal : Form → List ℕ → ℕ → ℕ
+reachRefusal form s n = first (openCases form s ++ (index s n ∷ []))
 
 -- what stands beside the number where there is no record
 abbrev pub noRecord : Record
@@ -204,7 +222,7 @@ fetchUnless zero r = record { refusal = recordRefusal r; query = r }
 fetchUnless (suc k) r = record { refusal = suc k; query = noRecord }
 
 unfoldable pub fetched : List ℕ → ℕ → Fetched
-fetched s n = fetchUnless (reachRefusal s n) (recordAt (editionOf s) s (placeOf s n))
+fetched s n = fetchUnless (reachRefusal (fileForm s) s n) (recordAt (editionOf s) s (placeOf s n))
 
 -- ---- writing
 

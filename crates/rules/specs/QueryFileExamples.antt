@@ -9,7 +9,7 @@ use Rattle.rules.specs.declared.Opened.the-variants.{Records, Refused}
 use Rattle.rules.specs.declared.Fetched.{Fetched}
 use Rattle.rules.specs.Refusals.{first, every, recordRefusal}
 use Rattle.rules.specs.Berth.{asked, apartly, P-T}
-use Rattle.rules.specs.QueryFile.{word, wordBytes, signed, bits, stands, coordinatesAt, coordinateBytes, recordBy, bytesBy, trailerBytes, recordsBytes, fileForm, fileBytes, openRefusal, openUnless, opened, reachRefusal, noRecord, fetchUnless, fetched}
+use Rattle.rules.specs.QueryFile.{word, wordBytes, signed, bits, stands, coordinatesAt, coordinateBytes, recordBy, bytesBy, trailerBytes, joined, fileForm, formBytes, fileBytes, openRefusal, openUnless, opened, reachRefusal, noRecord, fetchUnless, fetched}
 
 -- ---- the bytes
 
@@ -123,5 +123,5 @@ files = refl
 
 -- and the first case written is the file
 pub file-written : fileBytes 1 [] (first-case ∷ []) ≡ file
-unfolding fileBytes recordsBytes trailerBytes bytesBy coordinateBytes wordBytes bits
+unfolding formBytes joined trailerBytes bytesBy coordinateBytes wordBytes bits
 file-written = refl

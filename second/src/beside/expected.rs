@@ -3,7 +3,7 @@
 use crate::file::{open, record_at};
 use crate::refusals::check_words;
 use crate::search::search;
-use crate::told::told;
+use crate::told::told_of;
 
 /// Numbers told of one record: id, word, t, u, v, excess, count, refusal number.
 pub const TOLD: usize = 8;
@@ -24,9 +24,7 @@ impl Expected {
             let one = |n| {
                 let found = record_at(file, n);
                 let (record, range) = found.expect("n is below the count of an opened file");
-                let mut numbers = [record.id; TOLD];
-                numbers[1..].copy_from_slice(&told(&search(&record, range, words)));
-                numbers
+                told_of(record.id, &search(&record, range, words))
             };
             (0..opened.count).map(one).collect()
         });

@@ -117,6 +117,31 @@ macro_rules! parameters {
             n: usize, corners: *const i32, corners_len: usize
         }
     };
+    (log_write to $macro:ident $($besides:tt)*) => {
+        $macro! { $($besides)*;
+            out: *mut u8, out_len: usize, at: usize, told: *const u32, told_len: usize
+        }
+    };
+    (log_trailer to $macro:ident $($besides:tt)*) => {
+        $macro! { $($besides)*; out: *mut u8, out_len: usize, at: usize, count: u32 }
+    };
+    (log_read to $macro:ident $($besides:tt)*) => {
+        $macro! { $($besides)*;
+            log: *const u8, log_len: usize, n: usize, told: *mut u32, told_len: usize
+        }
+    };
+    (log_count to $macro:ident $($besides:tt)*) => {
+        $macro! { $($besides)*; log: *const u8, log_len: usize, told: *mut u32, told_len: usize }
+    };
+    (matched to $macro:ident $($besides:tt)*) => {
+        $macro! { $($besides)*; file: *const u8, file_len: usize, log: *const u8, log_len: usize }
+    };
+    (log to $macro:ident $($besides:tt)*) => {
+        $macro! { $($besides)*;
+            file: *const u8, file_len: usize, queue: *mut u64, queue_len: usize,
+            out: *mut u8, out_len: usize
+        }
+    };
 }
 
 /// A function's type, and its arguments by their names.
@@ -142,3 +167,9 @@ macro_rules! function {
 parameters!(bounds to function Bounds BoundsArguments);
 parameters!(walk to function BoundedWalk WalkArguments);
 parameters!(replace to function Replace ReplaceArguments);
+parameters!(log_write to function LogWrite LogWriteArguments);
+parameters!(log_trailer to function LogTrailer LogTrailerArguments);
+parameters!(log_read to function LogRead LogReadArguments);
+parameters!(log_count to function LogCount LogCountArguments);
+parameters!(matched to function Matched MatchedArguments);
+parameters!(log to function Log LogArguments);

@@ -12,7 +12,7 @@ use crate::record::Record;
 use crate::refusals::Refusal;
 use crate::rng::Rng;
 use crate::search::search;
-use crate::told::told;
+use crate::told::told_of;
 
 /// Records of a file that are given in numbers, and rooms tried for each edition of one.
 const RECORDS: usize = 3;
@@ -149,7 +149,5 @@ fn expected(
     if numbers < POINTS || lent < TOLD {
         return Err(SPACE);
     }
-    let mut eight = [record.id; TOLD];
-    eight[1..].copy_from_slice(&told(&search(record, Range::of(edition), words)));
-    Ok(eight)
+    Ok(told_of(record.id, &search(record, Range::of(edition), words)))
 }

@@ -4,6 +4,7 @@ use super::buffers::{Lent, Shifted};
 use super::expected::{answered, Expected, TOLD};
 use super::functions::{Answers, Copied, Count, OneAnswer, Pair, Trailer, TwoBodies, Why, Write};
 use super::functions::{BoundedWalk, Bounds, Replace};
+use super::functions::{Log, LogCount, LogRead, LogTrailer, LogWrite, Matched};
 use super::judged::{differences, Must};
 use super::places::absent;
 use super::tally::Tally;
@@ -29,6 +30,12 @@ pub struct Library {
     pub bounds: Bounds,
     pub walk: BoundedWalk,
     pub replace: Replace,
+    pub log_write: LogWrite,
+    pub log_trailer: LogTrailer,
+    pub log_read: LogRead,
+    pub log_count: LogCount,
+    pub matched: Matched,
+    pub log: Log,
 }
 
 impl Library {
@@ -150,11 +157,11 @@ impl Library {
 
 /// The calls of one case.
 pub struct Caller<'a> {
-    library: &'a Library,
-    file: Shifted,
+    pub library: &'a Library,
+    pub file: Shifted,
     edition: Edition,
-    tally: &'a mut Tally,
-    rng: Rng,
+    pub tally: &'a mut Tally,
+    pub rng: Rng,
     pub differences: Vec<String>,
 }
 

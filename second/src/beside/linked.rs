@@ -114,6 +114,12 @@ macro_rules! declared {
 parameters!(bounds to declared taperhive_bounds);
 parameters!(walk to declared taperhive_walk);
 parameters!(replace to declared taperhive_replace);
+parameters!(log_write to declared taperhive_log_write);
+parameters!(log_trailer to declared taperhive_log_trailer);
+parameters!(log_read to declared taperhive_log_read);
+parameters!(log_count to declared taperhive_log_count);
+parameters!(matched to declared taperhive_match);
+parameters!(log to declared taperhive_log);
 
 pub fn library() -> Library {
     Library {
@@ -129,5 +135,11 @@ pub fn library() -> Library {
         bounds: taperhive_bounds,
         walk: taperhive_walk,
         replace: taperhive_replace,
+        log_write: taperhive_log_write,
+        log_trailer: taperhive_log_trailer,
+        log_read: taperhive_log_read,
+        log_count: taperhive_log_count,
+        matched: taperhive_match,
+        log: taperhive_log,
     }
 }

@@ -9,6 +9,7 @@ mod judged;
 mod library;
 #[cfg(feature = "beside")]
 pub mod linked;
+pub mod logs;
 mod places;
 pub mod process;
 mod progress;
@@ -104,6 +105,7 @@ pub fn compare(library: &Library, case: &Case, tally: &mut Tally) -> Vec<String>
     }
     differences.extend(writing::compare(library, case, tally));
     differences.extend(given::compare(library, case, tally));
+    differences.extend(logs::compare(library, case, tally));
     differences
 }
 
@@ -120,6 +122,7 @@ fn answers(library: &Library, case: &Case, tally: &mut Tally) -> Vec<String> {
         };
         caller.answers(*words, &expected);
         caller.single_answers(*words, &expected);
+        caller.logs(*words, &expected);
         last = Some(expected);
     }
     caller.differences

@@ -13,21 +13,33 @@ pub fn compare(program: &[String], case: &Case, tally: &mut Tally) -> Vec<String
     difference("sweep", program, &case.file, &must).into_iter().collect()
 }
 
+/// What a program wrote on standard output and on standard error.
+pub struct Output {
+    pub bytes: Vec<u8>,
+    pub errors: Vec<u8>,
+}
+
 /// What differs between the text that a program prints of an input and the text that it must print.
 pub fn difference(name: &str, program: &[String], input: &[u8], must: &str) -> Option<String> {
     match output(program, input) {
         Err(fault) => Some(format!("{name}: {fault}")),
-        Ok(text) if text == must => None,
-        Ok(text) => Some(format!("{name}: {}", first_difference(&text, must))),
+        Ok(output) => text_difference(&output.bytes, must).map(|found| format!("{name}: {found}")),
     }
 }
 
-/// What the program prints, if it ends well.
-fn output(program: &[String], input: &[u8]) -> Result<String, String> {
+/// The first line of a text that is not as it must be.
+pub fn text_difference(bytes: &[u8], must: &str) -> Option<String> {
+    let text = String::from_utf8_lossy(bytes);
+    (text != must).then(|| first_difference(&text, must))
+}
+
+/// What the program writes, if it ends well.
+pub fn output(program: &[String], input: &[u8]) -> Result<Output, String> {
     let mut child = Command::new(&program[0])
         .args(&program[1..])
         .stdin(Stdio::piped())
         .stdout(Stdio::piped())
+        .stderr(Stdio::piped())
         .spawn()
         .map_err(|fault| format!("{} does not start: {fault}", program[0]))?;
     let mut stdin = child.stdin.take().expect("standard input is piped");
@@ -38,9 +50,10 @@ fn output(program: &[String], input: &[u8]) -> Result<String, String> {
     });
     let output = output.map_err(|fault| fault.to_string())?;
     if !output.status.success() {
-        return Err(format!("ended with {}", output.status));
+        let said = String::from_utf8_lossy(&output.stderr);
+        return Err(format!("ended with {}, and said '{}'", output.status, said.trim_end()));
     }
-    Ok(String::from_utf8_lossy(&output.stdout).into_owned())
+    Ok(Output { bytes: output.stdout, errors: output.stderr })
 }
 
 fn first_difference(text: &str, must: &str) -> String {

@@ -3,10 +3,8 @@
 use super::expected::TOLD;
 use super::progress::Counts;
 use crate::edition::Edition;
+use crate::told::WORDS;
 use std::fmt;
-
-/// The words of answers by their numbers, refused records first.
-pub const WORDS: [&str; 6] = ["REFUSED", "MET", "CLEAR", "SPENT", "ROOM", "FLOOR"];
 
 /// The highest number of a refusal.
 const MOST_NUMBER: usize = 22;
@@ -27,10 +25,24 @@ pub struct Tally {
     trailers: u64,
     /// Whole files written by such calls.
     written: u64,
+    /// Calls on answer files, in the order of `LogCall`.
+    logs: [u64; 7],
     /// Answers by word, refused records first.
     words: [u64; 6],
-    /// Refusals by number: 1 to 7 and 22 of records, 8 to 15 of calls and programs; a copy's are any of 1 to 14, and 22.
+    /// Refusals by number: 1 to 7 and 22 of records, 8 to 17 of calls and programs; a copy's are any of 1 to 14, and 22.
     refusals: [u64; MOST_NUMBER + 1],
+}
+
+/// What a call does with an answer file.
+#[derive(Clone, Copy, Debug)]
+pub enum LogCall {
+    Write,
+    Trailer,
+    Read,
+    Count,
+    Match,
+    Whole,
+    Tell,
 }
 
 impl Tally {
@@ -57,6 +69,12 @@ impl Tally {
     /// The same of a trailer.
     pub fn trailer(&mut self, number: u32) {
         self.trailers += 1;
+        self.call((number != 0).then_some(number));
+    }
+
+    /// The same of a call on an answer file.
+    pub fn log(&mut self, call: LogCall, number: u32) {
+        self.logs[call as usize] += 1;
         self.call((number != 0).then_some(number));
     }
 
@@ -142,6 +160,14 @@ impl fmt::Display for Tally {
         }
         if given + pairs > 0 {
             write!(f, "; {given} records from numbers, {pairs} pairs without a file")?;
+        }
+        if self.logs != [0; 7] {
+            let [write, trailer, read, count, matched, whole, told] = self.logs;
+            write!(
+                f,
+                "; answers: {write} written, {read} read, {trailer} trailers, {count} counted,"
+            )?;
+            write!(f, " {matched} matched, {whole} files answered, {told} told")?;
         }
         write!(f, "; {differing} files differ")
     }

@@ -3,7 +3,7 @@
 use super::progress::{verdict, Counts, Progress};
 use super::report::{self, Again};
 use super::tally::Tally;
-use super::{bodies, compare, process, why, Case, Library};
+use super::{bodies, compare, logs, process, why, Case, Library};
 use crate::gen;
 use std::fs;
 use std::path::PathBuf;
@@ -11,15 +11,18 @@ use std::time::{Duration, Instant};
 
 /// How often a long comparison says how far it is.
 const SAYS: Duration = Duration::from_secs(600);
-/// Of the time, one part in so many goes to `sweep` as a program, to bodies, to the largest bodies, to `why`, and to `why` as a program; the rest, a
-/// third of it, to files in process.
+/// Of the time, one part in so many goes to `sweep` as a program, to bodies, to the largest bodies, to `why`, to `why` as a program, and to `keep` and
+/// `tell`; the rest, seven parts in 24, to files in process.
 const SWEEP_SHARE: u32 = 6;
 const BODIES_SHARE: u32 = 4;
 const LARGE_SHARE: u32 = 12;
 const WHY_SHARE: u32 = 8;
 const WHY_PROGRAM_SHARE: u32 = 24;
+const KEEP_SHARE: u32 = 24;
 /// The largest bodies take seconds, and are begun only where so much time is left.
 const LARGE_NEEDS: Duration = Duration::from_secs(10);
+
+const KEEP_AND_TELL: &str = "keep and tell as programs";
 
 /// Holds the seed and the flavour of the case under way.
 const UNDER_WAY: &str = "under-way";
@@ -35,13 +38,28 @@ struct Ways {
     large: Progress<bodies::tally::Tally>,
     why: Progress<why::tally::Tally>,
     why_programs: Progress<why::tally::Tally>,
+    keeps: Progress<Tally>,
+}
+
+/// The programs as they are called, `why` but for its numbers.
+pub struct Programs {
+    pub sweep: Vec<String>,
+    pub why: Vec<String>,
+    pub keep: Vec<String>,
+    pub tell: Vec<String>,
+}
+
+impl Programs {
+    /// Each as its name says it is called.
+    pub fn by(called: impl Fn(&str) -> Vec<String>) -> Programs {
+        let [sweep, why, keep, tell] = ["sweep", "why", "keep", "tell"].map(called);
+        Programs { sweep, why, keep, tell }
+    }
 }
 
 pub struct Walk<'a> {
     pub library: Library,
-    /// `sweep` as it is called, and `why` as it is called but for its numbers.
-    pub sweep: &'a [String],
-    pub why: &'a [String],
+    pub programs: &'a Programs,
     /// Where differences are kept.
     pub folder: PathBuf,
 }
@@ -57,6 +75,7 @@ impl Ways {
             large: Progress::new("bodies of 256 triangles", first, gen::bodies::LARGE.to_vec()),
             why: Progress::new("why in process", first, gen::flavours()),
             why_programs: Progress::new("why as a program", first, gen::flavours()),
+            keeps: Progress::new(KEEP_AND_TELL, first, gen::flavours()),
         }
     }
 
@@ -67,13 +86,14 @@ impl Ways {
         self.large.say();
         self.why.say();
         self.why_programs.say();
+        self.keeps.say();
     }
 
     /// Short runs have no time for the largest bodies; these alone may have no case.
     fn verdict(&self) -> bool {
-        let files = [&self.calls, &self.sweeps].map(|way| way.tally.cases());
+        let files = [&self.calls, &self.sweeps, &self.keeps].map(|way| way.tally.cases());
         let why = [&self.why, &self.why_programs].map(|way| way.tally.cases());
-        let mut ways = [files, why].concat();
+        let mut ways = [&files[..], &why].concat();
         ways.push(self.bodies.tally.cases());
         ways.extend(Some(self.large.tally.cases()).filter(|cases| *cases != (0, 0)));
         verdict(&ways)
@@ -111,6 +131,8 @@ impl Walk<'_> {
             self.step(&mut ways.why, Case::new, Walk::why);
         } else if ways.why_programs.is_due(WHY_PROGRAM_SHARE, elapsed) {
             self.step(&mut ways.why_programs, Case::new, Walk::why_program);
+        } else if ways.keeps.is_due(KEEP_SHARE, elapsed) {
+            self.step(&mut ways.keeps, Case::new, Walk::keep_and_tell);
         } else {
             self.step(&mut ways.calls, Case::new, Walk::calls);
         }
@@ -123,6 +145,7 @@ impl Walk<'_> {
             self.once("sweep as a program", case, Walk::sweep).cases(),
             self.once("why in process", case, Walk::why).cases(),
             self.once("why as a program", case, Walk::why_program).cases(),
+            self.once(KEEP_AND_TELL, case, Walk::keep_and_tell).cases(),
         ])
     }
 
@@ -144,7 +167,7 @@ impl Walk<'_> {
     }
 
     fn sweep(&self, case: &Case, tally: &mut Tally) -> Vec<String> {
-        process::compare(self.sweep, case, tally)
+        process::compare(&self.programs.sweep, case, tally)
     }
 
     fn why(&self, case: &Case, tally: &mut why::tally::Tally) -> Vec<String> {
@@ -152,7 +175,12 @@ impl Walk<'_> {
     }
 
     fn why_program(&self, case: &Case, tally: &mut why::tally::Tally) -> Vec<String> {
-        why::program::compare(self.why, case, tally)
+        why::program::compare(&self.programs.why, case, tally)
+    }
+
+    fn keep_and_tell(&self, case: &Case, tally: &mut Tally) -> Vec<String> {
+        let Programs { keep, tell, .. } = self.programs;
+        logs::program::compare(keep, tell, case, tally)
     }
 
     fn bodies(&self, case: &bodies::Case, tally: &mut bodies::tally::Tally) -> Vec<String> {

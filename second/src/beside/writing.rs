@@ -199,7 +199,7 @@ fn number(result: Result<(), Refusal>) -> u32 {
 }
 
 /// Counts that matter at a place that so many records fit before.
-fn counts(fit: usize) -> [u32; 8] {
+pub fn counts(fit: usize) -> [u32; 8] {
     let fit = u32::try_from(fit).unwrap_or(MOST_RECORDS);
     [0, 1, fit, fit.saturating_add(1), MOST_RECORDS, MOST_RECORDS + 1, 1 << 31, u32::MAX]
 }

@@ -1,13 +1,14 @@
-//! Compares the proved library, `sweep` and `why` with the second program.
+//! Compares the proved library and the programs over it with the second program.
 
-use second::beside::{bodies, linked, walk::Walk, Case};
+use second::beside::walk::{Programs, Walk};
+use second::beside::{bodies, linked, Case};
 use std::path::PathBuf;
 use std::process::ExitCode;
 use std::time::Duration;
 
 const USAGE: &str = "\
-usage: compare SECONDS SEED RUN SWEEP WHY           from a seed on, for so long
-       compare --only SEED FLAVOUR RUN SWEEP WHY    one file or pair of bodies; RUN runs the programs SWEEP and WHY";
+usage: compare SECONDS SEED RUN FOLDER           from a seed on, for so long
+       compare --only SEED FLAVOUR RUN FOLDER    one file or pair of bodies; RUN runs the programs of the FOLDER";
 
 fn main() -> ExitCode {
     let arguments: Vec<String> = std::env::args().skip(1).collect();
@@ -25,10 +26,10 @@ fn main() -> ExitCode {
 fn run(arguments: &[String]) -> Option<bool> {
     let only = arguments.first()? == "--only";
     let (numbers, programs) = arguments.split_at_checked(if only { 3 } else { 2 })?;
-    let [run, sweep, why] = programs else { return None };
-    let [sweep, why] = [sweep, why].map(|program| [run.clone(), program.clone()]);
+    let [run, folder] = programs else { return None };
+    let programs = Programs::by(|name| vec![run.clone(), format!("{folder}/{name}")]);
     let folder = PathBuf::from("target/differences");
-    let walk = Walk { library: linked::library(), sweep: &sweep, why: &why, folder };
+    let walk = Walk { library: linked::library(), programs: &programs, folder };
     if only {
         let (seed, flavour) = (numbers[1].parse().ok()?, &numbers[2]);
         let of_bodies = || Some(walk.only_bodies(&bodies::Case::new(seed, flavour)?));

@@ -9,7 +9,7 @@ mod laws;
 mod rows;
 
 use second::beside::bodies::{compare_with, tally::Tally, Case};
-use second::beside::walk::Walk;
+use second::beside::walk::{Programs, Walk};
 use second::beside::Library;
 use second::bodies::{walk, BodiesAnswer};
 use second::gen::bodies::{flavours, LARGE};
@@ -120,7 +120,8 @@ fn tally_counts_what_was_compared() {
 fn differences_are_kept_with_every_number_and_how_to_run_them_again() {
     let folder = std::env::temp_dir().join(format!("taperhive-bodies-{}", std::process::id()));
     let case = Case::new(2, "bodies-near").unwrap();
-    let walk = |library| Walk { library, sweep: &[], why: &[], folder: folder.clone() };
+    let programs = Programs::by(|_| Vec::new());
+    let walk = |library| Walk { library, programs: &programs, folder: folder.clone() };
     assert!(walk(library::<0>()).only_bodies(&case));
     assert!(!folder.exists());
     assert_eq!(FAULTS[15], Fault::QueriesFromZero);

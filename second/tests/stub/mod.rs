@@ -19,6 +19,7 @@ pub mod bodies;
 pub mod bounds;
 pub mod caps;
 pub mod given;
+pub mod logs;
 pub mod ranges;
 pub mod why;
 pub mod writing;
@@ -64,6 +65,12 @@ pub fn ranged_library<const R: usize>() -> Library {
         bounds: bounds::bounds::<0, R>,
         walk: bounds::walk::<0, R>,
         replace: bounds::replace::<0, R>,
+        log_write: logs::log_write::<0>,
+        log_trailer: logs::log_trailer::<0>,
+        log_read: logs::log_read::<0>,
+        log_count: logs::log_count::<0>,
+        matched: logs::matched::<0>,
+        log: logs::log::<0>,
     }
 }
 

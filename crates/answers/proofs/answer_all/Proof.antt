@@ -8,7 +8,8 @@ use Rattle.rules.specs.QueryFile.{fileForm, openRefusal, put}
 use Rattle.queries.specs.Opening.{Holds, records-end, opened-records, opened-refused}
 use Rattle.answers.specs.Doing.{refuses, answers}
 use Rattle.answers.proofs.Refusing.{all-refused, all-short, all-good}
-use Rattle.answers.proofs.Walking.{tells-place, queue-place}
+use Rattle.answers.specs.Eight.{eight}
+use Rattle.answers.specs.Walking.{told-place, queue-place}
 use borrow.Author.Needs.{needs}
 use Rattle.answers.proofs.answer_all.Statement.{statement}
 use Rattle.answers.proofs.answer_all.Tie as tie
@@ -61,7 +62,7 @@ returns-3 c =
     let h = holds k in
     let w = c .before .before .before .before .answer-records .ensures in
     answers (all-good (a .file .now) (a .out .now) (h .none) (omega (arith, h .counts)))
-    (w .0 ∙ ap (λ (l : List ℕ). put (a .out .now) 0 l) (tells-place (a .file .now) (h .names) (h .starts) (h .counts) (length (a .queue .now))))
+    (w .0 ∙ ap (λ (l : List ℕ). put (a .out .now) 0 l) (told-place (a .file .now) (h .names) (h .starts) (h .counts) eight (length (a .queue .now))))
     (w .1 ∙ queue-place (a .file .now) (h .names) (h .starts) (h .counts) (a .queue .now))
 
 pub answer-all-spec : {M : Type 1} → statement M

@@ -1,12 +1,15 @@
 -- `answers::answer_at` meets its contract: a record searched where it stands, and told. Assumes nothing.
-use mathlib.Core.Path.{refl}
-use Rattle.answers.proofs.Walking.{answered}
+use Rattle.answers.specs.Eight.{eight}
+use Rattle.answers.specs.Walking.{answered}
 use borrow.Author.Needs.{needs}
 use Rattle.answers.proofs.answer_at.Statement.{statement}
 use Rattle.answers.proofs.answer_at.Tie as tie
 
 search-at-requires : tie.Need-search-at-requires
 search-at-requires c κs = search needs
+
+numbers-requires : tie.Need-numbers-requires
+numbers-requires c κs = search needs
 
 id-at-requires : tie.Need-id-at-requires
 id-at-requires c κs = search needs
@@ -26,14 +29,16 @@ same-length-2 c = search needs
 returns : tie.Need-returns
 returns c =
     let w = c .before .before .before in
-    let q = c .before .before .before .before .before .before .before .before in
-    answered refl (q .search-at .ensures .0) (q .search-at .ensures .1) (rw (w .before .id-at .ensures) at (w .write-eight .ensures)) (c .is-answered .ensures) (q .before .before .before .before .before .pre .zero)
+    let n = w .before .before .before in
+    let q = n .before .before .before in
+    answered eight (q .search-at .ensures .0) (q .search-at .ensures .1) (n .numbers .ensures) (w .before .id-at .ensures) (w .write-eight .ensures) (c .is-answered .ensures) (q .before .before .before .before .before .pre .zero)
 
 pub answer-at-spec : {M : Type 1} → statement M
 answer-at-spec =
     tie.close
     (tie.spec
     search-at-requires
+    numbers-requires
     id-at-requires
     write-eight-requires
     is-answered-requires

@@ -2,12 +2,13 @@
 use mathlib.Core.Path.{_≡_, sym, _∙_}
 use Prim.Native.Nat.{ℕ}
 use native.Mathlib.Omega.{arith}
-use Rattle.rules.specs.QueryFile.{isWide, fileForm, openRefusal}
+use Rattle.rules.specs.QueryFile.{recordSize, fileForm, openRefusal}
 use Rattle.queries.specs.Sizes.{size-one}
 use Rattle.queries.specs.Opening.{Holds, record-fits, opened-records, opened-refused}
 use Rattle.answers.specs.Doing.{refuses, answers}
 use Rattle.answers.proofs.Refusing.{one-refused, one-index, one-short, one-good}
-use Rattle.answers.proofs.Walking.{alone, at-place}
+use Rattle.answers.specs.Eight.{eight}
+use Rattle.answers.specs.Walking.{alone, at-place}
 use borrow.Author.Needs.{needs}
 use Rattle.answers.proofs.answer_one.Statement.{statement}
 use Rattle.answers.proofs.answer_one.Tie as tie
@@ -52,7 +53,7 @@ answer-records-requires : tie.Need-answer-records-requires
 answer-records-requires c κs =
     let p = c .before .before in
     let k = p .before .before .before .before in
-    (omega (arith, size-one (isWide (k .o2 .given .0 .0)), p .place-of .ensures, record-fits (holds k) (k .before .before .before .before .before .before .args .n) (p .before .before .if1 .left)), omega arith)
+    (omega (arith, size-one (recordSize (k .o2 .given .0 .0)), p .place-of .ensures, record-fits (holds k) (k .before .before .before .before .before .before .args .n) (p .before .before .if1 .left)), omega arith)
 
 returns-3 : tie.Need-returns-3
 returns-3 c =
@@ -73,7 +74,7 @@ returns-4 c =
     let k = p .before .before .before .before in
     let a = k .before .before .before .before .before .before .args in
     let h = holds k in
-    let d = at-place (a .file .now) (a .n) (h .names) (h .starts) (p .place-of .ensures) (alone (c .before .before .before .before .answer-records .ensures .0) (c .before .before .before .before .answer-records .ensures .1)) in
+    let d = at-place eight (a .file .now) (a .n) (h .names) (h .starts) (p .place-of .ensures) (alone eight (c .before .before .before .before .answer-records .ensures .0) (c .before .before .before .before .answer-records .ensures .1)) in
     answers (one-good (a .file .now) (a .out .now) (h .none) (a .n) (omega (arith, h .counts)) (omega arith)) (d .told) (d .left)
 
 pub answer-one-spec : {M : Type 1} → statement M

@@ -9,7 +9,8 @@ use Rattle.rules.specs.declared.Record.{Record}
 use Rattle.rules.specs.QueryFile.{isWide, sizeBy, recordSize, recordAt, recordBytes, put}
 use Rattle.queries.specs.Held.{Held}
 use Rattle.queries.specs.RoundTrip.{read-back}
-use Rattle.answers.proofs.Walking.{alone, known}
+use Rattle.answers.specs.Eight.{eight}
+use Rattle.answers.specs.Walking.{alone, known}
 use borrow.Author.Needs.{needs}
 use Rattle.answers.proofs.answer_record.Statement.{statement}
 use Rattle.answers.proofs.answer_record.Tie as tie
@@ -47,7 +48,7 @@ returns c =
     let w = c .before .before .before .before in
     let e = w .before .before .before .before .before in
     let k = e .before .before .before .before in
-    known (back (k .args .r) _ _ (k .pre .0) (k .pre .1) (omega arith) (e .encode .ensures)) (alone (w .answer-records .ensures .0) (w .answer-records .ensures .1))
+    known eight (back (k .args .r) _ _ (k .pre .0) (k .pre .1) (omega arith) (e .encode .ensures)) (alone eight (w .answer-records .ensures .0) (w .answer-records .ensures .1))
 
 pub answer-record-spec : {M : Type 1} → statement M
 answer-record-spec =

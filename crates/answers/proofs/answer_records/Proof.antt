@@ -1,27 +1,29 @@
 -- `answers::answer_records` meets its contract: record after record. Assumes nothing.
 use Prim.Native.Nat.{_-_}
+use mathlib.Core.Path.{refl}
 use native.Mathlib.Omega.{arith}
 use lib.ListN.{length}
-use Rattle.rules.specs.QueryFile.{isWide}
+use Rattle.rules.specs.QueryFile.{recordSize}
 use Rattle.queries.specs.Sizes.{record-within}
-use Rattle.answers.proofs.Walking.{Walked, walked-none, walked-more, walked-all}
+use Rattle.answers.specs.Eight.{eight}
+use Rattle.answers.specs.Walking.{Walked, walked-none, walked-more, walked-all}
 use Rattle.answers.proofs.answer_records.Statement.{statement}
 use Rattle.answers.proofs.answer_records.Tie as tie
 
 abbrev Inv-loop : tie.InvT-loop
-Inv-loop file edition first count queue₀ out₀ clean₀ i₀ queue out clean i = Walked edition file first count queue₀ out₀ queue out clean i
+Inv-loop file edition first count queue₀ out₀ clean₀ i₀ queue out clean i = Walked eight edition file first count queue₀ out₀ queue out clean i
 
 abbrev μ-loop : tie.MeasureT-loop
 μ-loop file edition first count queue₀ out₀ clean₀ i₀ queue out clean i = count - i
 
 loop-holds : tie.Need-loop-holds Inv-loop μ-loop
-loop-holds c = walked-none _ _ _ _ _ _
+loop-holds c = walked-none eight _ _ _ _ _ _
 
 place-of-requires : tie.Need-place-of-requires Inv-loop μ-loop
 place-of-requires c κs =
     let k = c .before .before .before .before .before in
     let a = k .args in
-    omega (arith, record-within (isWide (a .edition)) (a .first) (a .count) (c .before .loop .i) (length (a .file .now)) (omega arith) (k .pre .0))
+    omega (arith, record-within (recordSize (a .edition)) (a .first) (a .count) (c .before .loop .i) (length (a .file .now)) (omega arith) (k .pre .0))
 
 mul-answer-at : tie.Need-mul-answer-at Inv-loop μ-loop
 mul-answer-at c = omega arith
@@ -33,7 +35,7 @@ answer-at-requires c κs =
     let k = p .before .before .before .before .before .before in
     let a = k .args in
     record {
-      there = omega (arith, p .place-of .ensures, record-within (isWide (a .edition)) (a .first) (a .count) (p .before .before .loop .i) (length (a .file .now)) (omega arith) (k .pre .0));
+      there = omega (arith, p .place-of .ensures, record-within (recordSize (a .edition)) (a .first) (a .count) (p .before .before .loop .i) (length (a .file .now)) (omega arith) (k .pre .0));
       room = omega (arith, w .numbers);
       zero = w .zero;
     }
@@ -49,7 +51,7 @@ loop-again c =
     let p = c .before .before .before .before .before .before .before in
     let l = p .before .before in
     let k = l .before .before .before .before in
-    walked-more (l .loop .inv) (omega arith) (k .pre .1) (p .place-of .ensures) (c .before .before .before .before .answer-at .ensures)
+    walked-more eight 8 (λ id n. refl) (l .loop .inv) (omega arith) (k .pre .1) (p .place-of .ensures) (c .before .before .before .before .answer-at .ensures)
 
 same-length : tie.Need-same-length Inv-loop μ-loop
 same-length c = c .before .loop .inv .words
@@ -58,7 +60,7 @@ same-length-2 : tie.Need-same-length-2 Inv-loop μ-loop
 same-length-2 c = c .before .loop .inv .numbers
 
 returns : tie.Need-returns Inv-loop μ-loop
-returns c = walked-all (c .before .loop .inv) (omega arith)
+returns c = walked-all eight (c .before .loop .inv) (omega arith)
 
 pub answer-records-spec : {M : Type 1} → statement M
 answer-records-spec =

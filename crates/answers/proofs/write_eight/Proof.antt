@@ -1,18 +1,12 @@
 -- `answers::write_eight` meets its contract: two runs of four, the second right behind the first. Assumes nothing.
 use Prim.Native.Nat.{_+_}
-use mathlib.Core.Path.{refl, ap, _∙_}
+use mathlib.Core.Path.{refl}
 use mathlib.Core.List.{[], _∷_}
 use native.Mathlib.Omega.{arith}
-use Rattle.rules.specs.declared.Told.{Told}
-use Rattle.rules.specs.QueryFile.{put}
 use Rattle.little.specs.Put.{one-more}
-use Rattle.answers.specs.Eight.{eight}
 use borrow.Author.Needs.{needs}
 use Rattle.answers.proofs.write_eight.Statement.{statement}
 use Rattle.answers.proofs.write_eight.Tie as tie
-
-numbers-requires : tie.Need-numbers-requires
-numbers-requires c κs = search needs
 
 write-four-requires : tie.Need-write-four-requires
 write-four-requires c κs = search needs
@@ -30,9 +24,8 @@ returns : tie.Need-returns
 returns c =
     let w1 = c .before .before in
     let w0 = w1 .before .before .before .before in
-    let k = w0 .before .before .before .before in
-    let a = k .args in
-    let n = w0 .before .before .numbers .result in
+    let a = w0 .before .before .before .args in
+    let n = a .n in
     one-more (a .out .now) (w0 .write-four .last .0) (w1 .write-four2 .last .0) (a .at) (a .at + 4)
     (a .id ∷ n .word ∷ n .t ∷ n .u ∷ [])
     (n .v ∷ n .excess ∷ n .count ∷ n .number ∷ [])
@@ -40,13 +33,11 @@ returns c =
     (w1 .write-four2 .ensures)
     refl
     (omega arith)
-    ∙ ap (λ (x : Told). put (a .out .now) (a .at) (eight (a .id) x)) (w0 .before .before .numbers .ensures)
 
 pub write-eight-spec : {M : Type 1} → statement M
 write-eight-spec =
     tie.close
     (tie.spec
-    numbers-requires
     write-four-requires
     add-write-four
     write-four-requires-2

@@ -4,7 +4,8 @@ use native.Mathlib.Omega.{arith}
 use Rattle.rules.specs.QueryFile.{fileForm, openRefusal}
 use Rattle.queries.specs.Opening.{Holds, records-end, few-records, opened-records, opened-refused}
 use Rattle.text.specs.Text.{rows, fileText}
-use Rattle.answers.proofs.Walking.{tells-place}
+use Rattle.answers.specs.Eight.{eight}
+use Rattle.answers.specs.Walking.{told-place}
 use Rattle.page.proofs.Paging.{long-text, refused-text, file-text, printed-as, no-room, page-room, refusal-room}
 use borrow.Author.Needs.{needs}
 use Rattle.page.proofs.write_page.Statement.{statement}
@@ -17,7 +18,7 @@ holds : (c : tie.After-o2) → let s = c .before .before .before .before .before
 holds c = let s = c .before .before .before .before .before .before .before .args .file .now in opened-records (fileForm s) s _ _ _ (sym (c .before .before .open-file .ensures) ∙ c .o2 .given .1)
 
 returns : tie.Need-returns
-returns c = let a = c .before .before .before .args in no-room (a .out .now) _ (omega arith)
+returns c = let a = c .before .before .before .args in no-room 45280 (a .out .now) _ (omega arith)
 
 write-refused-requires : tie.Need-write-refused-requires
 write-refused-requires c κs = search needs
@@ -29,7 +30,7 @@ returns-2 : tie.Need-returns-2
 returns-2 c =
     let w = c .before .before in
     let a = w .before .before .before .before .before .before .args in
-    printed-as (refusal-room (a .out .now) (omega arith)) (long-text (a .file .now) (omega arith)) (w .write-refused .ensures)
+    printed-as (refusal-room 45280 (a .out .now) (omega arith) (omega arith)) (long-text (a .file .now) (omega arith)) (w .write-refused .ensures)
 
 open-file-requires : tie.Need-open-file-requires
 open-file-requires c κs = search needs
@@ -55,7 +56,7 @@ returns-3 c =
     let k = w .before .before .before in
     let a = k .before .before .before .before .before .before .before .args in
     let h = refused k in
-    printed-as (refusal-room (a .out .now) (omega arith)) (refused-text (a .file .now) _ (omega arith) (h .0) (h .1)) (w .write-refused2 .ensures)
+    printed-as (refusal-room 45280 (a .out .now) (omega arith) (omega arith)) (refused-text (a .file .now) _ (omega arith) (h .0) (h .1)) (w .write-refused2 .ensures)
 
 same-length-3 : tie.Need-same-length-3
 same-length-3 c = search needs
@@ -66,8 +67,8 @@ returns-4 c =
     let k = w .before .before .before in
     let a = k .before .before .before .before .before .before .before .args in
     let h = holds k in
-    printed-as (page-room (a .out .now) (omega arith))
-    ((λ i. fileText (rows (h .counts i) (tells-place (a .file .now) (h .names) (h .starts) (h .counts) 4096 i))) ∙ file-text (a .file .now) (omega arith) (h .none))
+    printed-as (page-room 45280 (a .out .now) (omega arith))
+    ((λ i. fileText (rows (h .counts i) (told-place (a .file .now) (h .names) (h .starts) (h .counts) eight 4096 i))) ∙ file-text (a .file .now) (omega arith) (h .none))
     (w .write-records .ensures)
 
 pub write-page-spec : {M : Type 1} → statement M

@@ -34,7 +34,7 @@ returns c =
     let k = c .before .before .before in
     let a = k .before .before .before .before .args in
     let h = holds k in
-    simp (reach-index (a .s .now) (a .n) (h .none) (omega (arith, h .counts, c .before .if1 .taken)), c .no-record2 .ensures)
+    simp (reach-index (fileForm (a .s .now)) (a .s .now) (a .n) (h .none) (omega (arith, h .counts, c .before .if1 .taken)), c .no-record2 .ensures)
 
 place-of-requires : tie.Need-place-of-requires
 place-of-requires c κs =
@@ -57,7 +57,7 @@ returns-2 c =
     let k = c .before .before in
     let a = k .before .before .before .before .args in
     let h = refused k in
-    rw (c .no-record .ensures, reach-refused (a .s .now) (a .n) (k .o .given .0 .0) (h .0) (h .1)) (refused-fetch (k .o .given .0 .0) _ (h .1))
+    rw (c .no-record .ensures, reach-refused (fileForm (a .s .now)) (a .s .now) (a .n) (k .o .given .0 .0) (h .0) (h .1)) (refused-fetch (k .o .given .0 .0) _ (h .1))
 
 returns-3 : tie.Need-returns-3
 unfolding fetched fetchUnless
@@ -67,7 +67,7 @@ returns-3 c =
     let h = holds k in
     let s = a .s .now in
     simp (
-      reach-good s (a .n) (h .none) (omega (arith, h .counts, c .before .before .before .if1 .left)),
+      reach-good (fileForm s) s (a .n) (h .none) (omega (arith, h .counts, c .before .before .before .if1 .left)),
       c .record-refusal .ensures,
       c .before .decode .ensures,
       c .before .before .place-of .ensures,

@@ -1,10 +1,11 @@
 //! What a comparison of `why` has gone through.
 
 use crate::beside::progress::Counts;
-use crate::beside::tally::{write_by_number, WORDS};
+use crate::beside::tally::write_by_number;
 use crate::refusals::Refusal;
 use crate::search::Answer;
 use crate::told::told;
+use crate::told::WORDS;
 use crate::why::TOLD;
 use std::fmt;
 

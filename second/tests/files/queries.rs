@@ -1,8 +1,6 @@
 //! The query file: round trips, refusals 8 to 14, and what a writer leaves alone.
 
-mod common;
-
-use common::*;
+use crate::common::*;
 use second::edition::Edition::One;
 use second::file::{fetch, open, trailer, write_record, write_trailer, Opened, RefusedFetch};
 use second::record::Record;

@@ -1,7 +1,11 @@
 //! The comparison of the writers, and of what is given in numbers: right functions pass, every wrong one is reported.
 
 #[macro_use]
+#[path = "../stub/mod.rs"]
 mod stub;
+
+mod answers;
+mod programs;
 
 use second::beside::{compare, given, tally::Tally, writing, Case, Library};
 use second::gen::{flavours, generate};

@@ -1,13 +1,14 @@
 //! The query file: free leading bytes, records, a trailer that points back.
 
-use crate::edition::{Edition, Range};
-use crate::record::{word_at, Record};
-use crate::refusals::{check_record, check_to_write, Refusal};
+pub mod trailer;
 
-/// Bytes of the trailer that ends a file.
-pub const TRAILER_BYTES: usize = 16;
+use crate::edition::{Edition, Range};
+use crate::record::Record;
+use crate::refusals::{check_record, check_to_write, Refusal};
+use trailer::{room, Trailer};
+pub use trailer::{MOST_RECORDS, TRAILER_BYTES};
+
 pub const MARK: [u8; 4] = *b"QEND";
-pub const MOST_RECORDS: u32 = 4_096;
 
 /// A file that was opened: its edition, where its first record stands, and how many there are.
 #[derive(Clone, Copy, Debug, PartialEq, Eq)]
@@ -26,27 +27,10 @@ pub struct RefusedFetch {
 
 /// Refusals 8 to 12.
 pub fn open(file: &[u8]) -> Result<Opened, Refusal> {
-    if file.len() < TRAILER_BYTES {
-        return Err(Refusal::Short);
-    }
-    let before = file.len() - TRAILER_BYTES;
-    let trailer = &file[before..];
-    if trailer[..4] != MARK {
-        return Err(Refusal::Mark);
-    }
-    let edition = Edition::of(trailer[4])?;
-    if trailer[5..8] != [0; 3] {
-        return Err(Refusal::Edition);
-    }
-    let (back, count) = (word_at(trailer, 8), word_at(trailer, 12));
-    if count > MOST_RECORDS {
-        return Err(Refusal::Count);
-    }
-    let back = back as usize;
-    if back != edition.records_bytes(count) || back > before {
-        return Err(Refusal::Back);
-    }
-    Ok(Opened { edition, first: before - back, count })
+    let trailer = Trailer::of(file, MARK)?;
+    let edition = Edition::of(trailer.edition)?;
+    let first = trailer.first(edition.record_bytes())?;
+    Ok(Opened { edition, first, count: trailer.count })
 }
 
 /// A record's number as a caller hands it over; one beyond 32 bits is no record's, and neither is the highest of 32 bits.
@@ -91,26 +75,12 @@ pub fn write_record(
 /// Writes the trailer of so many records at a place behind them: refusals 10, 11, 12, 14.
 pub fn write_trailer(buffer: &mut [u8], at: usize, edition: u8, count: u32) -> Result<(), Refusal> {
     let edition = Edition::of(edition)?;
-    if count > MOST_RECORDS {
-        return Err(Refusal::Count);
-    }
-    let back = edition.records_bytes(count);
-    // The place itself is the number of bytes before it, even past the buffer's end.
-    if at < back {
-        return Err(Refusal::Back);
-    }
-    let room = room(buffer, at, TRAILER_BYTES)?;
-    room.copy_from_slice(&trailer(edition, back as u32, count));
-    Ok(())
+    trailer::write(buffer, at, (MARK, edition.number()), edition.record_bytes(), count)
 }
 
 /// A trailer's bytes, unchecked: the generators also write wrong ones.
 pub fn trailer(edition: Edition, back: u32, count: u32) -> [u8; TRAILER_BYTES] {
-    let mut bytes = MARK.to_vec();
-    bytes.extend([edition.number(), 0, 0, 0]);
-    bytes.extend(back.to_le_bytes());
-    bytes.extend(count.to_le_bytes());
-    bytes.try_into().expect("4 + 4 + 4 + 4 bytes")
+    trailer::bytes(MARK, edition.number(), back, count)
 }
 
 /// A file of these records and their trailer, unchecked.
@@ -118,12 +88,4 @@ pub fn file_of(edition: Edition, records: &[Record]) -> Vec<u8> {
     let mut file: Vec<u8> = records.iter().flat_map(|record| record.bytes(edition)).collect();
     file.extend(trailer(edition, file.len() as u32, records.len() as u32));
     file
-}
-
-/// The bytes lent at a place, or 14.
-fn room(buffer: &mut [u8], at: usize, size: usize) -> Result<&mut [u8], Refusal> {
-    if buffer.len().saturating_sub(at) < size {
-        return Err(Refusal::Space);
-    }
-    Ok(&mut buffer[at..at + size])
 }

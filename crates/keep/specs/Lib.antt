@@ -1,0 +1,3 @@
+-- What `keep` writes of its input.
+pub mod Keeping
+pub mod Laws

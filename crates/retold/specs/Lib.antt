@@ -1,0 +1,3 @@
+-- What `tell` prints of its input.
+pub mod Page
+pub mod Laws
