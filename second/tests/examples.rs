@@ -108,7 +108,7 @@ fn rectangle(corners: [[i32; 3]; 4]) -> Vec<i32> {
     [0, 1, 2, 0, 2, 3].iter().flat_map(|&n| corners[n]).collect()
 }
 
-/// The box of examples/gangway.c, side by side, with its near lower corner there: 4 m by 1 m by 30 cm.
+/// The box of examples/c/gangway.c, side by side, with its near lower corner there: 4 m by 1 m by 30 cm.
 fn gangway(near: [i32; 3]) -> Vec<i32> {
     let far = [near[0] + 4 * METRE, near[1] + METRE, near[2] + 3 * METRE / 10];
     let side = |axis: usize, at: i32| {
@@ -162,6 +162,6 @@ fn the_gangway_of_the_c_example_is_answered_as_it_prints() {
         ["REFUSED", "MET", "CLEAR", "SPENT", "ROOM", "FLOOR"][l.word as usize],
         l.t, l.a, l.b, l.query, l.excess, l.count
     );
-    let path = Path::new(env!("CARGO_MANIFEST_DIR")).join("../examples/gangway.stdout");
+    let path = Path::new(env!("CARGO_MANIFEST_DIR")).join("../examples/c/gangway.stdout");
     assert_eq!(line, fs::read_to_string(path).expect("what it prints"));
 }

@@ -7,6 +7,7 @@ pub mod corpus;
 pub mod cube;
 pub mod fast;
 pub mod float;
+pub mod logged;
 pub mod measure;
 pub mod motion;
 pub mod plain;

@@ -6,6 +6,7 @@ use second::bench::bodies::{costs, linked as with_bounds};
 use second::bench::corpus::{Class, Corpus, QUEUE_WORDS, SEED};
 use second::bench::fast::Fast;
 use second::bench::float::{queries, Query};
+use second::bench::logged;
 use second::bench::measure::{by_turns, Contestant, Measured, ROUNDS};
 use second::bench::plain::Plain;
 use second::bench::reading::{ONE, TWO};
@@ -73,7 +74,7 @@ fn show_all<const SIZE: usize>(classes: &[Class], library: &Library) -> bool {
     })
 }
 
-/// The proved search and all exact ones written by hand give the same numbers.
+/// The proved search, its answer file read back, and all exact ones written by hand give the same numbers.
 fn alike(library: &Library, class: &Class) -> bool {
     let answers_by = |by: &dyn Fn(&mut [u64], &mut [u32]) -> u32| {
         let (mut queue, mut told) = (vec![1; QUEUE_WORDS], vec![1; 8 * class.queries]);
@@ -83,22 +84,26 @@ fn alike(library: &Library, class: &Class) -> bool {
     let same = answers_by(&|queue, told| answers::<Same>(&class.file, queue, told));
     let fast = answers_by(&|queue, told| answers::<Fast>(&class.file, queue, told));
     let plain = answers_by(&|queue, told| answers::<Plain>(&class.file, queue, told));
-    proved.0 == 0 && [same, fast, plain].iter().all(|by_hand| *by_hand == proved)
+    let log = |file: &[u8], queue: &mut [u64], out: &mut [u8]| library.log(file, queue, out);
+    let read = |log: &[u8], n: usize, told: &mut [u32]| library.log_read(log, n, told);
+    let logged = answers_by(&|queue, told| logged::read_back(log, read, &class.file, queue, told));
+    proved.0 == 0 && [same, fast, plain, logged].iter().all(|other| *other == proved)
 }
 
 fn show<const SIZE: usize>(class: &Class, library: &Library) {
     let ready: Vec<Query> = queries::<SIZE>(&class.file).collect();
     let mut contestants = [
         proved(class, library),
-        one_by_one(class, library),
         by_hand::<Same>("by hand, the same ideas", class),
+        into_a_log(class, library),
+        one_by_one(class, library),
         by_hand::<Fast>("by hand, fastest", class),
         by_hand::<Plain>("by hand, eight corners", class),
         floats("floats of 004, from the file", || queries::<SIZE>(&class.file)),
         floats("floats of 004, points ready", || ready.iter()),
     ];
     let measured = by_turns(&mut contestants, ROUNDS);
-    let same_ideas = measured[2].nanoseconds;
+    let [answers, same_ideas, log] = [0, 1, 2].map(|n| measured[n].nanoseconds);
     let row = |(one, Measured { nanoseconds, boxes }): (&Contestant, Measured)| {
         let (queries, boxes) = (class.queries as f64, boxes as f64);
         let (a_query, a_box) = (nanoseconds / queries, nanoseconds / boxes);
@@ -106,6 +111,7 @@ fn show<const SIZE: usize>(class: &Class, library: &Library) {
     };
     println!("\n{}: {} queries; {}", class.name, class.queries, words(class));
     table::print(&HEADS, &contestants.iter().zip(measured).map(row).collect::<Vec<_>>());
+    println!("taperhive_log by taperhive_answers: {:.2}", log / answers);
 }
 
 /// How the time goes up with the boxes of a query.
@@ -153,6 +159,16 @@ fn called<'a>(
         boxes(&told)
     };
     Contestant { name, run: Box::new(run) }
+}
+
+/// The same into an answer file.
+fn into_a_log<'a>(class: &'a Class, library: &'a Library) -> Contestant<'a> {
+    let (mut queue, mut answers) = (vec![0; QUEUE_WORDS], logged::room(class.queries));
+    let run = move || {
+        library.log(black_box(&class.file), &mut queue, &mut answers);
+        logged::boxes(&answers)
+    };
+    Contestant { name: "proved, taperhive_log", run: Box::new(run) }
 }
 
 /// The same by a call for each record, which clears the whole queue each time.

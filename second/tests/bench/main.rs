@@ -1,6 +1,7 @@
 //! What the bench measures does what it is measured for.
 
 mod bounds;
+mod logged;
 
 use second::bench::answering::{answers, ByHand};
 use second::bench::berth::Berth;

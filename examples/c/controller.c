@@ -2,7 +2,7 @@
  * scales its move by the smallest moment answered.
  *
  *   tools/library target/libtaperhive.a
- *   gcc -O2 -Iinclude examples/controller.c target/libtaperhive.a \
+ *   gcc -O2 -Iinclude examples/c/controller.c target/libtaperhive.a \
  *       -o target/controller-example
  *   target/controller-example examples/berth.query
  *
@@ -10,6 +10,7 @@
  * refused or there is no record, with 2 where the file cannot be read. */
 #include <stdio.h>
 #include "taperhive.h"
+#include "files.h"
 #include "reading.h"
 
 /* As many records as a file may have, of 128 bytes as in editions 2 and 3, and
@@ -23,24 +24,6 @@ static uint32_t told[RECORDS * TAPERHIVE_TOLD];
 static const uint32_t *record(uint32_t n)
 {
     return told + n * TAPERHIVE_TOLD;
-}
-
-/* The whole file into `file`: 1, or 0 with a sentence on standard error. */
-static int read_file(const char *name, size_t *length)
-{
-    FILE *in = fopen(name, "rb");
-    if (!in) {
-        perror(name);
-        return 0;
-    }
-    *length = fread(file, 1, sizeof file, in);
-    int broken = ferror(in);
-    fclose(in);
-    if (broken)
-        fprintf(stderr, "%s: cannot be read to its end\n", name);
-    else if (*length > FILE_BYTES)
-        fprintf(stderr, "%s: longer than %d bytes\n", name, FILE_BYTES);
-    return !broken && *length <= FILE_BYTES;
 }
 
 /* Every record answered into `told`, how many into *count; or the refusal. */
@@ -100,7 +83,7 @@ int main(int argc, char **argv)
     size_t length = 0;
     if (argc != 2)
         fprintf(stderr, "write %s FILE\n", argv[0]);
-    if (argc != 2 || !read_file(argv[1], &length))
+    if (argc != 2 || !read_file(argv[1], file, FILE_BYTES, &length))
         return 2;
 
     uint32_t count = 0, refused = ask(length, &count);

@@ -2,7 +2,7 @@
  * then a flap hangs from its tip, and the same step is asked again.
  *
  *   tools/library target/libtaperhive.a
- *   gcc -O2 -Iinclude examples/keeps-bounds.c target/libtaperhive.a \
+ *   gcc -O2 -Iinclude examples/c/keeps-bounds.c target/libtaperhive.a \
  *       -o target/keeps-bounds-example
  *   target/keeps-bounds-example
  *

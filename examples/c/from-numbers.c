@@ -3,7 +3,7 @@
  *
  *   tools/install target/installed
  *   export PKG_CONFIG_PATH=$PWD/target/installed/lib/pkgconfig
- *   gcc -O2 examples/from-numbers.c $(pkg-config --cflags --libs taperhive) \
+ *   gcc -O2 examples/c/from-numbers.c $(pkg-config --cflags --libs taperhive) \
  *       -o target/from-numbers-example
  *   target/from-numbers-example
  *

@@ -2,7 +2,7 @@
  * down on a deck that heaves towards it.
  *
  *   tools/library target/libtaperhive.a
- *   gcc -O2 -Iinclude examples/gangway.c target/libtaperhive.a \
+ *   gcc -O2 -Iinclude examples/c/gangway.c target/libtaperhive.a \
  *       -o target/gangway-example
  *   target/gangway-example
  *
