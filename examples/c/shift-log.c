@@ -52,7 +52,7 @@ static void print_answer(const uint32_t told[TAPERHIVE_TOLD])
     if (told[TAPERHIVE_WORD] == TAPERHIVE_REFUSED)
         printf("do not move: not checked, number %u\n", told[TAPERHIVE_NUMBER]);
     else if (told[TAPERHIVE_WORD] == TAPERHIVE_CLEAR)
-        printf("move the whole step, or up to the query's cap\n");
+        printf("move to the query's cap, or the whole step where it has none\n");
     else
         print_move(told[TAPERHIVE_T]);
 }

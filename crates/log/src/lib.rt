@@ -8,11 +8,11 @@ ghost use Rattle.answers.specs.Step.{Answering, Answered};
 ghost use Rattle.answers.specs.Walk.{tellsAll, queueFrom, Counted};
 ghost use Rattle.log.specs.Calls.{bytesOf, Writes, ReadsAt, Reads, Logs, logSize};
 use answers::asking::id_at;
-use answers::asking::search_at;
 use answers::count_form;
 use answers::is_answered;
 use answers::numbers;
 use answers::write_eight;
+use asking::search_at;
 use entry::answer_form;
 use entry::decode;
 use entry::encode;
@@ -31,6 +31,7 @@ use rules::Opened;
 use rules::Wrote;
 use word::word_refusal;
 
+mod asking; // asking.rt: a record of the query file searched
 pub mod entry; // entry.rt: one answer in bytes, and the form of the file
 mod matching; // matching.rt: 17 MATCH
 pub mod telling; // telling.rt: every answer of a file
