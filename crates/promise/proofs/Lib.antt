@@ -20,3 +20,4 @@ pub mod Sharp
 pub mod Old
 pub mod Bodies
 pub mod Why
+pub mod More

@@ -5,3 +5,4 @@ pub mod Bodies
 pub mod Why
 pub mod Order
 pub mod Log
+pub mod More
