@@ -1,6 +1,6 @@
 /* Taperhive for a controller: pairs of a file, single pairs or two bodies of triangles, searched and
  * told in numbers, bodies with bounds kept beside them too; why a pair was safe at a moment and place;
- * and query files, written.
+ * query files, written; and answer files, written, read and matched with their queries.
  *
  * Build: tools/install PREFIX, then cc `pkg-config --cflags --libs taperhive`. README.md says more.
  *
@@ -14,9 +14,9 @@
  *   A buffer that a call may write must overlap no other of that call: the proofs assume it. Lists
  *   that are only read may be one and the same, as the two of a body that stands still.
  *   No function allocates, opens a file or keeps anything between calls.
- *   Stack: taperhive_why takes up to 46,000 bytes on x86-64 and 33,000 on Arm, the others 2,000 at
+ *   Stack: taperhive_why takes up to 46,000 bytes on x86-64 and 33,000 on Arm, the others 3,000 at
  *   most. (The compiler's frames by -fstack-usage, taperhive_why's times its 61 levels. On Arm a
- *   painted stack showed 30,800 bytes at level 56, and 1,360 for the most of the others.)
+ *   painted stack showed 30,800 bytes at level 56, and of the others 2,152 for taperhive_walk.)
  *
  * THREADS
  *   Functions are reentrant: threads may call them at the same time, each with buffers of its own that
@@ -234,7 +234,7 @@ uint32_t taperhive_bounds(uint8_t edition, size_t count, const int32_t *start, s
 
 /* taperhive_bodies with the bounds of both bodies: what it tells is the same, number for number, the
  * sum of the counts too, and what it leaves of the queue. Where the bounds of two blocks are further
- * apart on some axis than that axis's separation, their triangles are passed over: that costs nothing,
+ * apart on some axis than that axis's separation, their triangles are passed over: they are not asked,
  * and counts one box for each query, as asking it would. So a far end of the hull costs next to
  * nothing, and what is near costs what it did.
  * Every call compares the bounds with the positions first. Returns 0, or why nothing was done and
@@ -258,7 +258,9 @@ uint32_t taperhive_walk(uint8_t edition, uint32_t dx, uint32_t dy, uint32_t dz,
  * edition is not 1, 2 or 3; 21 BODY as taperhive_bounds gives it, and where corners are not eighteen
  * numbers; 13 INDEX where n is not below the count; 3 COORD where a coordinate of the new triangle, or
  * of another one of its block, is outside the edition's range; 27 BOUNDS where bounds has not
- * TAPERHIVE_BOUNDS_LEN(count) numbers. */
+ * TAPERHIVE_BOUNDS_LEN(count) numbers.
+ * start, end and bounds are three lists of their own, also of a body that stands still, and corners
+ * stand in none of them. */
 uint32_t taperhive_replace(uint8_t edition, size_t count, int32_t *start, size_t start_len,
                            int32_t *end, size_t end_len, int32_t *bounds, size_t bounds_len,
                            size_t n, const int32_t *corners, size_t corners_len);

@@ -1,6 +1,6 @@
 -- What is answered of two bodies, and what is told of it: eight numbers.
 use Prim.Native.Nat.{ℕ, _/_, _%_}
-use mathlib.Core.Path.{_≡_}
+use mathlib.Core.Path.{_≡_, ap}
 use mathlib.Core.List.{List, [], _∷_}
 use lib.IntN.{ℤ}
 use lib.ListN.{length}
@@ -9,8 +9,8 @@ use Rattle.rules.specs.declared.BodyAnswer.{BodyAnswer}
 use Rattle.rules.specs.declared.BodyAnswer.the-variants.{Clear, Least, Refused}
 use Rattle.rules.specs.Refusals.{first, orElse}
 use Rattle.rules.specs.QueryFile.{noEdition}
-use Rattle.rules.specs.Bodies.{Body, bodyRefusal, bodySearch, queueAfterBodies}
-use Rattle.rules.specs.Bounds.{walkRefusal}
+use Rattle.rules.specs.Bodies.{Body, bodyRefusal, bodyUnless, bodySearch, queueAfterBodies}
+use Rattle.rules.specs.Bounds.{walkRefusal, walkSearch}
 use Rattle.answers.specs.Walk.{short, Does}
 
 -- the answer of the written search, and what it leaves of the queue
@@ -50,3 +50,8 @@ abbrev pub TellsWith : Terms → Body → List ℤ → Body → List ℤ → Lis
 TellsWith w a ofA b ofB queue queue′ out out′ number =
     let r : BodyAnswer = bodySearch w a b (length queue) in
     Does (toldRefusal (w .edition) (walkRefusal w a ofA b ofB (length queue)) out) (bodyTold r) (queueAfterBodies r queue) queue queue′ out out′ number
+
+-- it is the rules' answer of the walk with bounds
+pub walk-answers : (w : Terms) (a : Body) (ofA : List ℤ) (b : Body) (ofB : List ℤ) (words : ℕ) → walkRefusal w a ofA b ofB words ≡ 0 → walkSearch w a ofA b ofB words ≡ bodySearch w a b words
+unfolding walkSearch bodyUnless
+walk-answers w a ofA b ofB words e = ap (λ (n : ℕ). bodyUnless n (bodySearch w a b words)) e

@@ -35,15 +35,6 @@ exchange-rows edition m bounds n corners = by (isEdition edition) _
     by false rest = refl
     by true rest = refl
 
--- where nothing is refused the rules refuse nothing
-pub exchange-taken : (edition : ℕ) (m : Body) (bounds : List ℤ) (n : ℕ) (corners : List ℤ) → exchangeRefusal edition m bounds n corners ≡ 0 → replaceRefusal edition m bounds n corners ≡ 0
-unfolding exchangeRefusal
-exchange-taken edition m bounds n corners e = by (first (noEdition edition ∷ [])) e
-  where
-    by : (k : ℕ) → orElse k (replaceRefusal edition m bounds n corners) ≡ 0 → replaceRefusal edition m bounds n corners ≡ 0
-    by zero e = e
-    by (suc k) e = absurd (omega arith)
-
 -- a refusal leaves all as it was
 pub refuses-replacing : (edition : ℕ) (m : Body) (bounds : List ℤ) (n : ℕ) (corners : List ℤ) (number : ℕ) → number ≡ exchangeRefusal edition m bounds n corners → (number ≡ 0 → ⊥) → Replaces edition m bounds n corners (m .start) (m .end) bounds number
 unfolding putUnless

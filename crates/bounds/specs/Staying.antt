@@ -3,6 +3,7 @@
 --     replaced-known   a body stays one
 --     stays-exact      bounds that were what the body's triangles give are what they give with the triangle replaced
 --     others-stay      no other block's numbers change, whatever they were
+--     replace-kept     so it is of what `replace` leaves, by its contract alone
 -- Assumes nothing.
 use mathlib.Core.Path.{_≡_, refl, sym, ap, ap₂, _∙_}
 use mathlib.Core.Bool.{Bool, true, false, not, cond, _&&_, and-eq-true-iff}
@@ -21,12 +22,12 @@ use Rattle.rules.specs.declared.Axis.{Axis}
 use Rattle.rules.specs.declared.Axis.the-variants.{X, Y, Z}
 use Rattle.rules.specs.Gap.{place}
 use Rattle.rules.specs.Search.{lesser, greater}
-use Rattle.rules.specs.QueryFile.{put}
-use Rattle.rules.specs.Refusals.{first}
+use Rattle.rules.specs.QueryFile.{noEdition, put, putUnless}
+use Rattle.rules.specs.Refusals.{first, orElse}
 use Rattle.rules.specs.Bodies.{Body, isBody}
 use Rattle.rules.specs.Bounds.{overFace, overTriangle, overTriangles, blocks, sizeOf, bound, boundsTo, boundsOf, blockOf, replaced, mended, areInBlock, replaceRefusal}
 use Rattle.bounds.specs.Lists.{length-bounds}
-use Rattle.bounds.specs.Keeping.{Known, known}
+use Rattle.bounds.specs.Keeping.{Known, known, exchangeRefusal, Replaces}
 
 -- ---- what is not refused
 
@@ -173,3 +174,22 @@ module _ (edition : ℕ) (m : Body) (bounds : List ℤ) (n : ℕ) (corners : Lis
   pub others-stay : (p : ℕ) → (p < 6 * blockOf n) ⊎ (6 * blockOf n + 6 ≤ p) → getD (mended (replaced m n corners) n bounds) p (pos 0) ≡ getD bounds p (pos 0)
   others-stay p (inl f) = let h = replaceable edition m bounds n corners taken in put-below bounds (6 * blockOf n) (bound (replaced m n corners) (blockOf n)) (omega (arith, h .there, h .room)) p (pos 0) f
   others-stay p (inr f) = let h = replaceable edition m bounds n corners taken in put-above bounds (6 * blockOf n) (bound (replaced m n corners) (blockOf n)) (omega (arith, h .there, h .room)) p (pos 0) f
+
+-- ---- of what `replace` leaves
+
+pub exchange-taken : (edition : ℕ) (m : Body) (bounds : List ℤ) (n : ℕ) (corners : List ℤ) → exchangeRefusal edition m bounds n corners ≡ 0 → replaceRefusal edition m bounds n corners ≡ 0
+unfolding exchangeRefusal
+exchange-taken edition m bounds n corners e = by (first (noEdition edition ∷ [])) e
+  where
+    by : (k : ℕ) → orElse k (replaceRefusal edition m bounds n corners) ≡ 0 → replaceRefusal edition m bounds n corners ≡ 0
+    by zero e = e
+    by (suc k) e = absurd (omega arith)
+
+-- where it returns 0, bounds that were exact are exact
+pub replace-kept : (edition : ℕ) (m : Body) (bounds : List ℤ) (n : ℕ) (corners start′ end′ bounds′ : List ℤ) → Replaces edition m bounds n corners start′ end′ bounds′ 0 → bounds ≡ boundsOf m
+    → bounds′ ≡ boundsOf (record { count = m .count; start = start′; end = end′ })
+unfolding putUnless
+replace-kept edition m bounds n corners start′ end′ bounds′ h e =
+    h .mends
+    ∙ stays-exact edition m bounds n corners (exchange-taken edition m bounds n corners (sym (h .says))) e
+    ∙ sym (λ i. boundsOf (record { count = m .count; start = h .start i; end = h .end i }))

@@ -1,13 +1,15 @@
 -- What each call on an answer file does: the number that comes back, and what is left of what was lent.
-use Prim.Native.Nat.{ℕ, zero, suc, _+_, _*_}
-use mathlib.Core.Bool.{Bool, true, not, _&&_}
-use mathlib.Core.List.{List, [], _∷_, _++_}
+use Prim.Native.Nat.{ℕ, zero, suc, _+_, _*_, _≤_}
+use mathlib.Core.Path.{_≡_, sym, ap, _∙_}
+use mathlib.Core.Bool.{Bool, true, false, not, cond, _&&_}
+use mathlib.Core.List.{List, [], _∷_, _++_, append-assoc}
+use borrow.Author.Tests.{le-ltb}
 use lib.Dec.{eqb}
 use lib.ListN.{length, getD}
 use Rattle.rules.specs.declared.Told.{Told}
-use Rattle.rules.specs.Refusals.{first}
+use Rattle.rules.specs.Refusals.{Case, first}
 use Rattle.rules.specs.QueryFile.{word, joined, readFrom, editionOf, fileForm, recordCount, placeIn, placeOf, openCases, openRefusal, index, space, trailerBytes}
-use Rattle.rules.specs.AnswerFile.{Entry, toldAt, entryAt, entryBytes, answerForm, wordCases, wordRefusal, sameIds}
+use Rattle.rules.specs.AnswerFile.{Entry, toldAt, entryAt, entryBytes, answerForm, wordCases, wordRefusal, entryRefusal, readRefusal, sameIds}
 use Rattle.queries.specs.Writing.{Puts}
 use Rattle.answers.specs.Eight.{eight}
 use Rattle.answers.specs.Walk.{short, tellsAll, queueFrom, Does}
@@ -73,3 +75,21 @@ areTaken s at (suc n) = eqb (wordRefusal (toldAt s at)) 0 && areTaken s (at + 32
 -- their numbers
 abbrev pub entriesTold : List ℕ → ℕ → ℕ → List ℕ
 entriesTold s at n = joined (λ (e : Entry). eight (e .id) (e .told)) (readFrom entryAt 32 s at n)
+
+-- ---- where numbers enough are lent, these are the rules' own
+
+last-not-due : (cs : List Case) (c : Case) → c .due ≡ false → first (cs ++ (c ∷ [])) ≡ first cs
+unfolding first
+last-not-due [] c e = ap (λ (t : Bool). cond t (c .number) 0) e
+last-not-due (x ∷ cs) c e = ap (cond (x .due) (x .number)) (last-not-due cs c e)
+
+pub writes-by : (out : List ℕ) (at : ℕ) (numbers : List ℕ) → 8 ≤ length numbers → writesRefusal out at numbers ≡ entryRefusal out at (toldIn numbers)
+unfolding writesRefusal entryRefusal first
+writes-by out at numbers h = ap (λ (t : Bool). cond t 14 (first (wordCases (toldIn numbers) ++ (space out at 32 ∷ [])))) (le-ltb (length numbers) 8 h)
+
+pub reads-by : (s : List ℕ) (n : ℕ) (out : List ℕ) → 8 ≤ length out → readsRefusal s n out ≡ readRefusal s n
+unfolding readsRefusal readRefusal
+reads-by s n out h =
+    let told = wordCases (toldAt s (placeIn answerForm s n)) in
+    ap first (sym (append-assoc (openCases answerForm s) (index s n ∷ told) (short out 8 ∷ [])))
+    ∙ last-not-due (openCases answerForm s ++ (index s n ∷ told)) (short out 8) (le-ltb (length out) 8 h)

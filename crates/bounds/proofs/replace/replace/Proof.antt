@@ -6,8 +6,8 @@ use Rattle.rules.specs.Bounds.{blockOf, replaced}
 use Rattle.bounds.specs.Reach.{body}
 use Rattle.bounds.specs.Keeping.{exchangeRefusal}
 use Rattle.bounds.specs.Ranges.{has-block}
-use Rattle.bounds.specs.Staying.{replaceable, replaced-known}
-use Rattle.bounds.proofs.Refusing.{exchange-taken, refuses-replacing, replaces}
+use Rattle.bounds.specs.Staying.{exchange-taken, replaceable, replaced-known}
+use Rattle.bounds.proofs.Refusing.{refuses-replacing, replaces}
 use Rattle.bounds.proofs.replace.replace.Statement.{statement}
 use Rattle.bounds.proofs.replace.replace.Tie as tie
 
