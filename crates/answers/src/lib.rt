@@ -1,4 +1,6 @@
 // The records of a query file, searched and told in eight numbers each.
+#![tactic(auto)]
+
 ghost use Rattle.std.specs.Prelude.{◌≡◌, true, ◌∷◌, [], ◌+◌, ◌*◌, ◌≤◌, length};
 ghost use Rattle.rules.specs.Answers.{told, queue_after};
 ghost use Rattle.rules.specs.QueryFile.{file_form, is_wide, record_size, put};

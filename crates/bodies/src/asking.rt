@@ -6,7 +6,7 @@ ghost use Rattle.bodies.specs.Asking.{point_at, corner_at, four_at, points_of, a
 
 use rules::{Ask, Record, Terms};
 
-#[derive(Drop)]
+#[derive(Clone, Copy)]
 pub struct Point {
     pub x: i32,
     pub y: i32,
@@ -14,7 +14,7 @@ pub struct Point {
 }
 
 // A query's four points at one moment.
-#[derive(Drop)]
+#[derive(Clone, Copy)]
 pub struct Four {
     pub p: Point,
     pub q: Point,

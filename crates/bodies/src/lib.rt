@@ -1,4 +1,6 @@
 // Two bodies of triangles, a gangway and a hull: fifteen queries a triangle pair, the least time and the sum of counts.
+#![tactic(auto)]
+
 ghost use Rattle.std.specs.Prelude.{◌≡◌, length};
 ghost use Rattle.rules.specs.declared.BodyAnswer.TheVariants.{Clear};
 ghost use Rattle.rules.specs.Bodies.{queries_of, body_refusal};

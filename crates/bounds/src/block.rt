@@ -30,14 +30,14 @@ pub fn block_end(count: usize, block: usize) -> usize
 // ---- what a block's triangles reach
 
 // From the least to the greatest on one axis. Coordinates in range leave room for the fourth corner.
-#[derive(Drop)]
+#[derive(Clone, Copy)]
 pub struct Ends {
     pub least: i32,
     pub greatest: i32,
 }
 
 // A block's bound.
-#[derive(Drop)]
+#[derive(Clone, Copy)]
 pub struct Bound {
     pub x: Ends,
     pub y: Ends,

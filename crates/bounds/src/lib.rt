@@ -1,4 +1,6 @@
 // The bounds of a body, six numbers for every 32 triangles, and one triangle replaced.
+#![tactic(auto)]
+
 ghost use Rattle.std.specs.Prelude.{◌≡◌};
 ghost use Rattle.rules.specs.QueryFile.{put};
 ghost use Rattle.rules.specs.Bodies.{is_body};

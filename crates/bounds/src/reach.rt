@@ -38,7 +38,7 @@ pub fn triangle_at(s: &[i32], e: &[i32], at: usize) -> Kernel
 }
 
 // What a triangle, or all of a block's, reaches on each axis.
-#[derive(Drop)]
+#[derive(Clone, Copy)]
 pub struct Reach {
     pub x: Span,
     pub y: Span,

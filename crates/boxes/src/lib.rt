@@ -1,4 +1,6 @@
 // A stored box as one word: t index in bits 40 to 59, u in bits 20 to 39, v in bits 0 to 19.
+#![tactic(auto)]
+
 ghost use Rattle.std.specs.Prelude.{◌≡◌, ◌^◌, ◌<◌, ◌≤◌};
 ghost use Rattle.rules.specs.Search.{stored};
 ghost use Rattle.boxes.specs.Boxes.{box_of, Fits, half_of, index_bits, index_one, half_by};

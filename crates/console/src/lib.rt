@@ -1,4 +1,6 @@
 // What a program does with its arguments, its input and its output.
+#![tactic(auto)]
+
 ghost use Rattle.std.specs.Prelude.{◌≡◌, ◌≤◌, length};
 ghost use Rattle.console.specs.Number.{and_digit, is_digit, number_of};
 ghost use Rattle.console.specs.Input.{Within};
@@ -6,7 +8,7 @@ ghost use Rattle.console.specs.Input.{Within};
 use libc::{STDERR_FILENO, STDIN_FILENO, STDOUT_FILENO};
 
 // What a text says.
-#[derive(Drop)]
+#[derive(Clone, Copy)]
 pub enum Number {
     Is(u32),
     Not,
@@ -51,7 +53,7 @@ pub fn read_number(s: &[u8]) -> Number
 }
 
 // How many bytes were read, or that they could not be.
-#[derive(Drop)]
+#[derive(Clone, Copy)]
 pub enum Input {
     Bytes(usize),
     Failed,

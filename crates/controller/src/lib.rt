@@ -1,4 +1,6 @@
 // The library for a controller: numbers and slices only. include/taperhive.h says what each function does.
+#![tactic(auto)]
+
 ghost use Rattle.std.specs.Prelude.{◌≡◌};
 ghost use Rattle.rules.specs.QueryFile.{file_form};
 ghost use Rattle.answers.specs.Walk.{One, Every, Counted};

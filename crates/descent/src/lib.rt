@@ -1,4 +1,6 @@
 // Why a point was ruled out: from the whole domain down into the half that holds it, to the first box that was discarded.
+#![tactic(auto)]
+
 ghost use Rattle.std.specs.Prelude.{◌≡◌, ◌<◌, ◌^◌, ◌&&◌, leb, ltb, length, replicate};
 ghost use Rattle.rules.specs.Numbers.{parts, last_moment};
 ghost use Rattle.rules.specs.Refusals.{search_refusal};

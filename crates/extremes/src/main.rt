@@ -1,5 +1,7 @@
 // The box's questions at the extremes of document 01's numbers. A line: whether the box survives; the low corner's t, u, v and excess;
 // whether it is near; the parameter to split in (0, 1, 2 for t, u, v); whether the box is inside the face.
+#![tactic(auto)]
+
 ghost use Rattle.std.specs.Prelude.{◌≤◌};
 ghost use Rattle.kernel.specs.Ranges.{Ranged, Shallow, InGrid};
 
@@ -83,7 +85,7 @@ fn falling(points: [i32; 24], from: i32, to: i32) -> [i32; 24] {
 }
 
 // What the questions of a box come to.
-#[derive(Drop)]
+#[derive(Clone, Copy)]
 pub struct Answers {
     pub survives: bool,
     pub corner: Corner,

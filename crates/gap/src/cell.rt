@@ -7,7 +7,7 @@ ghost use Rattle.gap.specs.Steps.{Placed};
 use rules::Three;
 
 // A cell's ends, and the parts that they count.
-#[derive(Drop)]
+#[derive(Clone, Copy)]
 pub struct Cell {
     pub parts: u64,
     pub t0: u64,

@@ -1,4 +1,6 @@
 // Everything that the search asks about one box of a pair.
+#![tactic(auto)]
+
 ghost use Rattle.std.specs.Prelude.{◌≡◌, ◌≤◌};
 ghost use Rattle.rules.specs.Numbers.{last_moment};
 ghost use Rattle.rules.specs.Refusals.{search_refusal};

@@ -7,7 +7,7 @@ use kernel::Kernel;
 use whole::{minus, turn};
 
 // One coordinate of the four points at the start or at the end.
-#[derive(Drop)]
+#[derive(Clone, Copy)]
 pub struct Four {
     pub p0: i32,
     pub p1: i32,

@@ -16,7 +16,7 @@ use rules::Three;
 
 // An axis at a moment: how F changes with each u index and each v index, and from where to where these changes may lead for F to come within the
 // separation somewhere over a cell.
-#[derive(Drop)]
+#[derive(Clone, Copy)]
 pub struct Edge {
     pub u: i64,
     pub v: i64,
@@ -25,13 +25,13 @@ pub struct Edge {
 }
 
 // An axis from the low to the high end of a t index.
-#[derive(Drop)]
+#[derive(Clone, Copy)]
 pub struct Strip {
     pub start: Edge,
     pub end: Edge,
 }
 
-#[derive(Drop)]
+#[derive(Clone, Copy)]
 pub struct Slab {
     pub t: u64,
     pub x: Strip,

@@ -10,14 +10,14 @@ use super::cell::Cell;
 use kernel::Kernel;
 
 // A, B, C of an axis at a moment, times parts.
-#[derive(Drop)]
+#[derive(Clone, Copy)]
 pub struct Moment {
     pub a: i64,
     pub b: i64,
     pub c: i64,
 }
 
-#[derive(Drop)]
+#[derive(Clone, Copy)]
 pub struct Span {
     pub least: i64,
     pub greatest: i64,

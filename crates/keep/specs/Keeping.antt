@@ -2,7 +2,7 @@
 use Rattle.std.specs.Prelude.{ℕ, zero, suc, ◌≡◌, List, length}
 use Rattle.rules.specs.QueryFile.{put_unless}
 use Rattle.page.specs.Page.{sweep_refusal}
-use Rattle.log.specs.Calls.{log_bytes}
+use Rattle.shift_log.specs.Calls.{log_bytes}
 use Rattle.keep.specs.declared.Logged.{Logged}
 use Rattle.keep.specs.declared.Logged.TheVariants.{Bytes, Refused}
 

@@ -15,8 +15,8 @@ use Rattle.queries.specs.Opening.{opens}
 use Rattle.queries.specs.Files.{length_trailer}
 use Rattle.answers.specs.Walk.{tells_all}
 use Rattle.answers.specs.Walking.{length_told}
-use Rattle.log.specs.Calls.{bytes_of, log_refusal, log_bytes, size_unless, log_size, Logs}
-use Rattle.log.proofs.Logging.{long, log_refused, log_good}
+use Rattle.shift_log.specs.Calls.{bytes_of, log_refusal, log_bytes, size_unless, log_size, Logs}
+use Rattle.shift_log.proofs.Logging.{long, log_refused, log_good}
 use Rattle.page.specs.Page.{sweep_refusal}
 use Rattle.page.specs.Laws.{short}
 use Rattle.keep.specs.declared.Logged.{Logged}

@@ -1,4 +1,6 @@
 // keep [FILE]: a query file, or standard input, and its answer file on standard output.
+#![tactic(auto)]
+
 ghost use Rattle.std.specs.Prelude.{◌≤◌, length};
 ghost use Rattle.keep.specs.Keeping.{Keeps};
 
@@ -6,7 +8,7 @@ use console::{Input, print, read_input, say};
 use text::Written;
 
 // How many bytes the answer file has, or the number that the query file is refused with.
-#[derive(Drop)]
+#[derive(Clone, Copy)]
 pub enum Logged {
     Bytes(usize),
     Refused(u32),
@@ -21,11 +23,11 @@ fn keep(file: &[u8], out: &mut [u8]) -> Logged
         return Logged::Refused(15);
     }
     let mut queue = [0u64; 4096];
-    let number = log::log_file(file, &mut queue, out);
+    let number = shift_log::log_file(file, &mut queue, out);
     if number != 0 {
         return Logged::Refused(number);
     }
-    Logged::Bytes(log::log_size(file))
+    Logged::Bytes(shift_log::log_size(file))
 }
 
 fn usage() {

@@ -22,8 +22,8 @@ use Rattle.gap.specs.Bounds.{excess_most}
 use Rattle.gap.specs.Grid.{in_parts_of, over_of}
 use Rattle.gap.specs.Prepared.{pair_of, pair_prepared}
 use Rattle.descent.proofs.Refusing.{own_most}
-use Rattle.log.specs.Entries.{Held}
-use Rattle.log.specs.Words.{Taken, taken}
+use Rattle.shift_log.specs.Entries.{Held}
+use Rattle.shift_log.specs.Words.{Taken, taken}
 use Rattle.promise.proofs.Levels.{Moment, Kept}
 use Rattle.promise.proofs.Accepted.{accepted_kept}
 use Rattle.promise.proofs.Log.{can_be_written}

@@ -29,9 +29,9 @@ use Rattle.queries.specs.Layout.{All, length_read}
 use Rattle.queries.specs.Opening.{Holds, opens, opens_first, refused_first, opened_records}
 use Rattle.answers.specs.Eight.{eight}
 use Rattle.answers.specs.Walk.{tells_by, tells, short}
-use Rattle.log.specs.Calls.{log_refusal, log_bytes, Logs, Reads}
-use Rattle.log.specs.Entries.{Held}
-use Rattle.log.specs.Laws.{file_opens, file_read, reads_file}
+use Rattle.shift_log.specs.Calls.{log_refusal, log_bytes, Logs, Reads}
+use Rattle.shift_log.specs.Entries.{Held}
+use Rattle.shift_log.specs.Laws.{file_opens, file_read, reads_file}
 use Rattle.promise.proofs.Log.{can_be_written}
 use Rattle.kept.specs.Fits.{search_held}
 

@@ -16,8 +16,8 @@ use Rattle.queries.specs.Files.{length_trailer}
 use Rattle.answers.specs.Eight.{eight}
 use Rattle.answers.specs.Walk.{tells_by, tells_all}
 use Rattle.answers.specs.Walking.{length_told}
-use Rattle.log.specs.Calls.{bytes_of, log_bytes, are_taken}
-use Rattle.log.proofs.Logging.{long}
+use Rattle.shift_log.specs.Calls.{bytes_of, log_bytes, are_taken}
+use Rattle.shift_log.proofs.Logging.{long}
 use Rattle.text.specs.Text.{rows, file_text}
 use Rattle.page.specs.Page.{sweep_refusal, sweep_told, page_unless, sweep_text}
 use Rattle.retold.specs.Page.{tell_told, tell_text}

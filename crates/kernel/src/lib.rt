@@ -1,7 +1,8 @@
 // F in one form for both kinds of pair: on each axis A + typeof.u.B + typeof.v.C, where A, B and C each go straight from start to end.
+#![tactic(auto)]
 
 // The six whole numbers of an axis: A, B, C at the start and at the end.
-#[derive(Drop)]
+#[derive(Clone, Copy)]
 pub struct Kernel {
     pub a0: i64,
     pub b0: i64,
@@ -13,7 +14,7 @@ pub struct Kernel {
 
 // What the search goes by, as the code holds it: a kernel and a separation an axis, and the record's other numbers. `room` is H, `deepest` the depth limit,
 // `last` the last moment.
-#[derive(Drop)]
+#[derive(Clone, Copy)]
 pub struct Pair {
     pub x: Kernel,
     pub y: Kernel,

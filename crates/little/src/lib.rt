@@ -1,4 +1,6 @@
 // Numbers of 32 bits in lent bytes, little-endian. Each function asks that its four bytes are there.
+#![tactic(auto)]
+
 ghost use Rattle.std.specs.Prelude.{◌≡◌, ◌∷◌, [], ◌+◌, ◌*◌, ◌≤◌, length};
 ghost use Rattle.rules.specs.QueryFile.{word, word_bytes, signed, bits, stands, put};
 

@@ -1,4 +1,6 @@
 // The page of a query file that is in memory: what `sweep` prints of it. What that must be stands in specs/Page.antt.
+#![tactic(auto)]
+
 ghost use Rattle.std.specs.Prelude.{◌+◌, ◌*◌, ◌≤◌, true, length};
 ghost use Rattle.rules.specs.QueryFile.{record_size};
 ghost use Rattle.answers.specs.Walk.{tells_from};

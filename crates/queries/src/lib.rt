@@ -1,4 +1,6 @@
 // The query file, read and written, in every edition.
+#![tactic(auto)]
+
 ghost use Rattle.std.specs.Prelude.{◌≡◌, ◌+◌, ◌-◌, ◌*◌, ◌≤◌, length, get_or};
 ghost use Rattle.rules.specs.QueryFile.{record_bytes, trailer_bytes, query_form, edition_of, file_form, put, opened, fetched, no_record, has_room, has_cap_room, in_edition, write_refusal, trailer_refusal, query_trailer_refusal, Written};
 

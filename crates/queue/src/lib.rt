@@ -1,4 +1,6 @@
 // The lent queue of H and H words: the present level stands from 0 on, the next one is written from H on.
+#![tactic(auto)]
+
 ghost use Rattle.std.specs.Prelude.{◌≡◌, ◌++◌, ◌+◌, ◌≤◌, min, length, take, drop, replicate};
 ghost use Rattle.queue.specs.Cleared.{cleared};
 ghost use Rattle.queue.specs.Level.{halving_of, Halvable, HalfIs, half_at, Takes, TakenIs, Grows, Grown};
@@ -39,7 +41,7 @@ pub fn copy_down(queue: &mut [u64], h: usize, n: usize)
 }
 
 // How a level's boxes are halved, worked out once a level. The bound is a word: a half's own word says whether its low t is beyond the cap.
-#[derive(Drop)]
+#[derive(Clone, Copy)]
 pub struct Halving {
     pub split: Parameter,
     pub bits: u64,
@@ -66,7 +68,7 @@ fn halving_of(p: Pair, k: Three, split: Parameter) -> Halving
 const PAST: u64 = 18446744073709551615;
 
 // A half at its place among the low or the high halves, by its word. Past the last place stands the word `PAST`.
-#[derive(Drop)]
+#[derive(Clone, Copy)]
 pub struct Half {
     pub at: usize,
     pub word: u64,
@@ -87,7 +89,7 @@ fn half_at(c: Halving, high: bool, queue: &[u64], n: usize, at: usize) -> Half
 }
 
 // The two that are next when the half that goes first is taken.
-#[derive(Drop)]
+#[derive(Clone, Copy)]
 pub struct Taken {
     pub low: Half,
     pub high: Half,
@@ -114,7 +116,7 @@ fn lesser(a: u64, b: u64) -> u64
 }
 
 // The next level has no room, or so many boxes.
-#[derive(Drop)]
+#[derive(Clone, Copy)]
 pub enum Next {
     Room,
     Level(usize),

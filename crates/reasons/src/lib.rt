@@ -1,4 +1,6 @@
 // A record of a query file asked why it is safe at a point, and the box that is named told in nine numbers.
+#![tactic(auto)]
+
 ghost use Rattle.std.specs.Prelude.{◌≡◌, ◌≤◌, length};
 ghost use Rattle.rules.specs.QueryFile.{put};
 ghost use Rattle.rules.specs.Gap.{place};

@@ -1,4 +1,6 @@
 // Rows 1 to 7 of document 01's table, lowest number first, with 22 between 6 and 7 (document 02, R-7). The search and the query file share them.
+#![tactic(auto)]
+
 ghost use Rattle.std.specs.Prelude.{◌≡◌, ◌||◌, cond, eqb, pos};
 ghost use Rattle.rules.specs.Numbers.{between, limits_by, limits_of, is_coordinate, is_queue};
 ghost use Rattle.rules.specs.QueryFile.{is_edition};

@@ -11,7 +11,7 @@ use Rattle.rules.specs.Refusals.{Case, first}
 use Rattle.rules.specs.QueryFile.{record_count, place_in, open_refusal}
 use Rattle.rules.specs.AnswerFile.{answer_form}
 use Rattle.queries.specs.Opening.{refused_first, opens_first}
-use Rattle.log.specs.Calls.{are_taken}
+use Rattle.shift_log.specs.Calls.{are_taken}
 use Rattle.text.specs.declared.Written.{Written}
 use Rattle.text.specs.Text.{rows, file_text, refused_text}
 use Rattle.text.specs.Laws.{printed_once}

@@ -3,7 +3,7 @@ use Rattle.std.specs.Prelude.{ℕ, Bool, not, List, [], ◌∷◌, ◌++◌, leb
 use Rattle.rules.specs.Refusals.{Case, first}
 use Rattle.rules.specs.QueryFile.{record_count, place_in, open_cases}
 use Rattle.rules.specs.AnswerFile.{answer_form}
-use Rattle.log.specs.Calls.{are_taken, entries_told}
+use Rattle.shift_log.specs.Calls.{are_taken, entries_told}
 use Rattle.text.specs.declared.Written.{Written}
 use Rattle.text.specs.Text.{rows, file_text}
 use Rattle.text.specs.Writers.{Printed}

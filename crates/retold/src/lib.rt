@@ -1,6 +1,8 @@
 // The page of an answer file that is in memory: what `tell` prints of it. What that must be stands in specs/Page.antt.
+#![tactic(auto)]
+
 ghost use Rattle.std.specs.Prelude.{◌+◌, ◌*◌, ◌≤◌, true, length};
-ghost use Rattle.log.specs.Calls.{entries_told};
+ghost use Rattle.shift_log.specs.Calls.{entries_told};
 ghost use Rattle.text.specs.Text.{rows, file_text};
 ghost use Rattle.text.specs.Writers.{Printed};
 ghost use Rattle.retold.specs.Page.{Retold};
@@ -14,7 +16,7 @@ fn write_entries(log: &[u8], first: usize, count: usize, out: &mut [u8]) -> Writ
     ensures { Printed true (file_text (rows count (entries_told log.now first count))) out.old out.new result }
 {
     let mut told = [0u32; 32768];
-    log::telling::tell_entries(log, first, count, &mut told);
+    shift_log::telling::tell_entries(log, first, count, &mut told);
     text::write_answers(&told, count as u32, out)
 }
 
@@ -28,7 +30,7 @@ pub fn write_told(log: &[u8], out: &mut [u8]) -> Written
     if 262144 < log.len() {
         return text::write_refused(15, out);
     }
-    let form = log::entry::answer_form();
+    let form = shift_log::entry::answer_form();
     let o = queries::open_form(log, form);
     match o {
         Opened::Refused(number) => text::write_refused(number, out),
@@ -37,7 +39,7 @@ pub fn write_told(log: &[u8], out: &mut [u8]) -> Written
             first,
             count,
         } => {
-            if log::telling::are_taken(log, first, count) {
+            if shift_log::telling::are_taken(log, first, count) {
                 write_entries(log, first, count, out)
             } else {
                 text::write_refused(16, out)

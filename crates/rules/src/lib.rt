@@ -1,10 +1,11 @@
 // The values that document 01 speaks of, by value. The rules themselves stand in specs/.
+#![tactic(auto)]
 
 // A query as it is handed to the search or to a writer: every field of the file's record.
 // `edition` is that of its file, by which its ranges and depths go. dx, dy, dz are the separations; `cap` is the last moment that is looked at, in 1/1,048,576 parts,
 // and 0 for the whole step: the word at 28 of editions 2 and 3, and 0 in edition 1.
 // The points are p, v1, v2, v3 or p1, p2, p3, p4 at the start, then the same four at the end; x, y, z of each.
-#[derive(Drop)]
+#[derive(Clone, Copy)]
 pub struct Record {
     pub kind: u8,
     pub flags: u8,
@@ -22,7 +23,7 @@ pub struct Record {
 }
 
 // One number a parameter: a box's indices, or a level's depths.
-#[derive(Drop)]
+#[derive(Clone, Copy)]
 pub struct Three {
     pub t: u64,
     pub u: u64,
@@ -30,7 +31,7 @@ pub struct Three {
 }
 
 // The parameter that a level is split in.
-#[derive(Drop)]
+#[derive(Clone, Copy)]
 pub enum Parameter {
     InT,
     InU,
@@ -38,7 +39,7 @@ pub enum Parameter {
 }
 
 // A low corner in 1/1,048,576 parts, with its excess in units.
-#[derive(Drop)]
+#[derive(Clone, Copy)]
 pub struct Corner {
     pub t: u32,
     pub u: u32,
@@ -47,7 +48,7 @@ pub struct Corner {
 }
 
 // What comes back. A refusal carries its number.
-#[derive(Drop)]
+#[derive(Clone, Copy)]
 pub enum Answer {
     Met {
         t: u32,
@@ -82,7 +83,7 @@ pub enum Answer {
 }
 
 // An answer in numbers alone, as `told` of specs/Answers.antt gives it.
-#[derive(Drop)]
+#[derive(Clone, Copy)]
 pub struct Told {
     pub word: u32,
     pub t: u32,
@@ -94,7 +95,7 @@ pub struct Told {
 }
 
 // What a file's trailer must say: its mark, its edition, and the bytes that one record takes.
-#[derive(Drop)]
+#[derive(Clone, Copy)]
 pub struct Form {
     pub mark: [u8; 4],
     pub edition: u8,
@@ -102,7 +103,7 @@ pub struct Form {
 }
 
 // What opening a file answers: its edition, where the first record stands and how many there are. A refusal carries its number.
-#[derive(Drop)]
+#[derive(Clone, Copy)]
 pub enum Opened {
     Records {
         edition: u8,
@@ -113,21 +114,21 @@ pub enum Opened {
 }
 
 // A fetched record and its refusal's number, 0 for none. (An enum cannot hold the record's array.)
-#[derive(Drop)]
+#[derive(Clone, Copy)]
 pub struct Fetched {
     pub refusal: u32,
     pub query: Record,
 }
 
 // What a writer answers. A refusal carries its number.
-#[derive(Drop)]
+#[derive(Clone, Copy)]
 pub enum Wrote {
     Done,
     Refused(u32),
 }
 
 // What two bodies are asked with: one separation triple, tolerance and budget for all queries, and the edition whose ranges they go by.
-#[derive(Drop)]
+#[derive(Clone, Copy)]
 pub struct Terms {
     pub dx: u32,
     pub dy: u32,
@@ -138,7 +139,7 @@ pub struct Terms {
 }
 
 // One of a triangle pair's fifteen queries: its kind and its four points, 0 to 2 the corners 1 to 3 of A, 3 to 5 those of B.
-#[derive(Drop)]
+#[derive(Clone, Copy)]
 pub struct Ask {
     pub kind: u8,
     pub p: usize,
@@ -148,7 +149,7 @@ pub struct Ask {
 }
 
 // What two bodies are answered; the sum of counts needs 64 bits. `Least`: the least time, with the triangles of A and B and the query that has it first.
-#[derive(Drop)]
+#[derive(Clone, Copy)]
 pub enum BodyAnswer {
     Clear(u64),
     Least {
@@ -164,35 +165,35 @@ pub enum BodyAnswer {
 }
 
 // The axes, and the two sides of the separation on one: F is below minus it, or above it.
-#[derive(Drop)]
+#[derive(Clone, Copy)]
 pub enum Axis {
     X,
     Y,
     Z,
 }
 
-#[derive(Drop)]
+#[derive(Clone, Copy)]
 pub enum Side {
     Below,
     Above,
 }
 
 // Where a box is beyond the separation: nowhere, or over all of it on an axis and a side.
-#[derive(Drop)]
+#[derive(Clone, Copy)]
 pub enum Miss {
     Nowhere,
     On(Axis, Side),
 }
 
 // A stop on the way down to a point: a box at its depths.
-#[derive(Drop)]
+#[derive(Clone, Copy)]
 pub struct Stop {
     pub depths: Three,
     pub index: Three,
 }
 
 // Why a point is ruled out: the level, the depths and the index of a discarded box, and the axis and side that discard it.
-#[derive(Drop)]
+#[derive(Clone, Copy)]
 pub struct Reason {
     pub level: u64,
     pub depths: Three,
@@ -202,7 +203,7 @@ pub struct Reason {
 }
 
 // What one who points at a moment and place is answered. A refusal carries its number.
-#[derive(Drop)]
+#[derive(Clone, Copy)]
 pub enum Ruling {
     Discarded(Reason),
     Refused(u32),

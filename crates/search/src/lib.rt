@@ -1,4 +1,6 @@
 // The search of one query: the levels in the lent queue, from the whole cube of parameters down.
+#![tactic(auto)]
+
 ghost use Rattle.std.specs.Prelude.{◌≡◌, ◌&&◌, ◌+◌, ◌≤◌, max, eqb, length, replicate};
 ghost use Rattle.rules.specs.Answers.{queue_after};
 ghost use Rattle.rules.specs.Search.{deeper, run, search};
@@ -14,14 +16,14 @@ use queue::{Next, clear, clear_part, copy_down, grow};
 use rules::{Answer, Corner, Parameter, Record, Three};
 
 // What a level's first survivor comes to: the end of the search, or its corner is recorded.
-#[derive(Drop)]
+#[derive(Clone, Copy)]
 pub enum First {
     Ends(Answer),
     Recorded(Corner),
 }
 
 // A level: its boxes are the first words of the queue; `used` is the largest size so far.
-#[derive(Drop)]
+#[derive(Clone, Copy)]
 pub struct Level {
     pub depths: Three,
     pub size: usize,
@@ -31,7 +33,7 @@ pub struct Level {
 }
 
 // The search ends, or goes on with a level.
-#[derive(Drop)]
+#[derive(Clone, Copy)]
 pub enum Step {
     Ends(Answer),
     Goes(Level),

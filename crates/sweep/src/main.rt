@@ -1,4 +1,6 @@
 // sweep [FILE]: a query file, or standard input, and its answers as lines on standard output.
+#![tactic(auto)]
+
 use check::same;
 use console::{Input, print, read_input, say};
 use help::help;

@@ -1,4 +1,6 @@
 // tell [FILE]: an answer file, or standard input, and its answers as the lines that sweep prints.
+#![tactic(auto)]
+
 use console::{Input, print, read_input, say};
 use text::Written;
 

@@ -1,4 +1,6 @@
 // The bytes that `sweep` prints, made in a buffer that the caller lends. What they must be stands in specs/Text.antt.
+#![tactic(auto)]
+
 ghost use Rattle.std.specs.Prelude.{◌≡◌, ◌+◌, ◌*◌, ◌≤◌, length, drop, [], cond, eqb};
 ghost use Rattle.text.specs.Text.{
   decimal,
@@ -25,14 +27,14 @@ use rules::Told;
 pub mod pieces; // pieces.rt: bytes, numbers and names
 
 // A record's id beside its answer in numbers.
-#[derive(Drop)]
+#[derive(Clone, Copy)]
 pub struct Row {
     pub id: u32,
     pub answer: Told,
 }
 
 // How many bytes were written, or that none was.
-#[derive(Drop)]
+#[derive(Clone, Copy)]
 pub enum Written {
     Text(usize),
     Nothing,

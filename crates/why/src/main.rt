@@ -1,4 +1,6 @@
 // why N T U V [FILE]: why record N of a query file is safe at a moment and place, in 1/1,048,576 parts.
+#![tactic(auto)]
+
 ghost use Rattle.std.specs.Prelude.{◌≤◌, length};
 ghost use Rattle.text.specs.Writers.{Wrote};
 ghost use Rattle.why.specs.Page.{why_page};

@@ -1,4 +1,6 @@
 // The line that `why` prints, made in a buffer that the caller lends. What it must be stands in specs/Line.antt.
+#![tactic(auto)]
+
 ghost use Rattle.std.specs.Prelude.{◌≡◌, ◌+◌, ◌≤◌, ◌<◌, length};
 ghost use Rattle.text.specs.Writers.{Wrote};
 ghost use Rattle.kernel.specs.Ranges.{OnGrid, Shallow, InGrid};

@@ -5,7 +5,7 @@ use Rattle.rules.specs.declared.Form.{Form}
 use Rattle.rules.specs.QueryFile.{open_refusal, opened, record_count, place_in}
 use Rattle.rules.specs.AnswerFile.{answer_form}
 use Rattle.queries.specs.Opening.{Holds, opened_records, opened_refused}
-use Rattle.log.specs.Calls.{are_taken, entries_told}
+use Rattle.shift_log.specs.Calls.{are_taken, entries_told}
 use Rattle.text.specs.Text.{rows, file_text}
 use Rattle.page.proofs.Paging.{printed_as, no_room, page_room, refusal_room}
 use Rattle.retold.specs.Laws.{long, refused_text_lem, told_text}
