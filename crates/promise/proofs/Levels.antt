@@ -82,6 +82,7 @@ module _ (S : Query) (H : HasKernel S) (deep : S.deepest ≤ 20) where
 
   -- the low corner of the first box
   not_before : (k : Depths) (n : ℕ) (m : Place) (l : List Box) → From n l → Some (λ b. In k b m) l → low k.t n * m.q ≤ m.a * parts
+  not_before k n m [] f x'' = elim x'' [ ]
   not_before k n m (b ∷ bs) f (inl w) =
       le_trans (mul-le-mul_right m.q (mul-le-mul_right (side k.t) f.0)) (omega (arith, w.t.above, mul_comm m.q (low k.t b.t), mul_comm parts m.a))
   not_before k n m (b ∷ bs) f (inr w) = not_before k n m bs f.1 w

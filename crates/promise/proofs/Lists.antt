@@ -18,6 +18,7 @@ every_weaken f [] h = tt
 every_weaken f (b ∷ bs) h = (f b h.0, every_weaken f bs h.1)
 
 pub some_weaken : {P Q : Box → Type 0} → ((b : Box) → P b → Q b) → (l : List Box) → Some P l → Some Q l
+some_weaken {P = P} {Q = Q} f [] x' = elim x' [ ]
 some_weaken f (b ∷ bs) (inl w) = inl (f b w)
 some_weaken f (b ∷ bs) (inr w) = inr (some_weaken f bs w)
 
@@ -34,6 +35,7 @@ those_every P f (b ∷ bs) h = go (f b) (λ t. t) (those_every P f bs h.1)
 
 pub those_some : (P : Box → Type 0) (f : Box → Bool) (l : List Box) → Some (λ b. P b × T (f b)) l → Some P (those f l)
 unfolding those
+those_some P f [] x' = elim x' [ ]
 those_some P f (b ∷ bs) (inl w) = here (f b) w.1
   where
     here : (c : Bool) → T c → Some P (cond c (b ∷ those f bs) (those f bs))
@@ -71,6 +73,7 @@ map_ascending g up (b ∷ bs) h = (map_every (Before b) (Before (g b)) g (λ x. 
 -- some box has one of two changed that is such
 pub map_some : (P Q : Box → Type 0) (f g : Box → Box) → ((b : Box) → P b → Q (f b) ⊎ Q (g b)) → (l : List Box) → Some P l → Some Q (map f l) ⊎ Some Q (map g l)
 unfolding ⊎_map
+map_some P Q f g h [] x' = elim x' [ ]
 map_some P Q f g h (b ∷ bs) (inl w) = ⊎_map inl inl (h b w)
 map_some P Q f g h (b ∷ bs) (inr w) = ⊎_map inr inr (map_some P Q f g h bs w)
 

@@ -6,7 +6,7 @@ use Prim.Native.Nat.{ℕ, ◌+◌, ◌-◌, ◌^◌, ◌≤◌, ◌<◌, min}
 use native.Mathlib.Nat.{add_assoc}
 use native.Mathlib.Numerals.{add-one}
 use native.Mathlib.Omega.{arith}
-use lib.ListN.{length, set, take, drop, length-set, length-drop, length-append, length_map}
+use lib.ListN.{length, set, take, drop, length-set, length-drop, length-append, length-map}
 use lib.Seq.{take-take, take-set-le, drop-set-add, drop-set-lt, length-take-le, take_at, take-suc-set}
 use Rattle.rules.specs.declared.Parameter.{Parameter}
 use Rattle.rules.specs.Search.{Query, Box, Depths, inside, halves}
@@ -89,13 +89,13 @@ module _ (pair : Pair) (k : Depths) (split : Parameter) (n : ℕ) (old : List �
     length_written = length-take-le m (drop h new) (rw (length-drop h new) (omega (arith, w.len, w.room, grows.twice)))
 
     length_part : (b : Box) (rest : List Box) → m < length (map box_of written ++ b ∷ rest)
-    length_part b rest = rw (length-append, length_map, length_written) (omega arith)
+    length_part b rest = rw (length-append, length-map, length_written) (omega arith)
 
     -- what is written are the first of the boxes
     first_placed : (rest : List Box) → map box_of written ++ rest ≡ whole → Placed h m k (take m whole) old new
     first_placed rest e = record {
       fits = w.room;
-      placed = rw (← e) (sym (take_at (map box_of written) rest m (length_map written box_of ∙ length_written)));
+      placed = rw (← e) (sym (take_at (map box_of written) rest m (length-map written box_of ∙ length_written)));
       grid = w.grid;
       ascends = w.ascends;
       beyond = w.beyond;

@@ -32,6 +32,7 @@ use Rattle.promise.proofs.Why.Reached.{Among, Ahead, ahead_of, reached, Goes, go
 module _ (S : Query) (at : Three) where
   -- ---- the half that holds the point is a box of the next level
   map_among : (g : Box → Box) (keeps : Box → Bool) (b : Box) (l : List Box) → T (keeps (g b)) → Among b l → Some (λ x. (x ≡ g b) × T (keeps x)) (map g l)
+  map_among g keeps b [] t x'' = elim x'' [ ]
   map_among g keeps b (x ∷ xs) t (inl e) = inl (ap g e, subst (λ (y : Box). T (keeps (g y))) (sym e) t)
   map_among g keeps b (x ∷ xs) t (inr w) = inr (map_among g keeps b xs t w)
 
@@ -99,6 +100,7 @@ module _ (S : Query) (at : Three) where
             W.recorded in_time
           where
             alive_too : (l : List Box) → Among b l → Some (λ x. (x ≡ b) × T (survives S k x)) l
+            alive_too [] x' = elim x' [ ]
             alive_too (x ∷ xs) (inl e) = inl (e, subst (λ (y : Box). T (survives S k y)) (sym e) alive)
             alive_too (x ∷ xs) (inr w) = inr (alive_too xs w)
 

@@ -45,6 +45,7 @@ module _ (S : Query) (at : Three) where
   module _ (k : Depths) (b : Box) (starts : low k.t b.t ≤ at.t) where
     -- a box that stands before it begins no later
     from_low : (n : ℕ) (l : List Box) → From n l → Among b l → low k.t n ≤ at.t
+    from_low n [] f x'' = elim x'' [ ]
     from_low n (x ∷ xs) f (inl e) = le_trans (mul-le-mul_right (side k.t) (subst (λ (y : Box). n ≤ y.t) e f.0)) starts
     from_low n (x ∷ xs) f (inr w) = from_low n xs f.1 w
 
@@ -87,6 +88,7 @@ module _ (S : Query) (at : Three) where
         → Ahead (check S k boxes seen c n)
         → Among b (take (counted (check S k boxes seen c n) - n) boxes)
     unfolding check one_box first_survivor corner is_before
+    reached [] seen c n a w h ah = elim w [ ]
     reached (x ∷ xs) seen c n a w h ah =
         go (eqb n S.budget) (survives S k x) seen ah
         (later w (λ v s d g t. reached xs s d (n + 1) a.1 v g t))

@@ -1,0 +1,14 @@
+use Prim.Native.Nat.{◌+◌, ◌-◌, ◌*◌, ◌/◌, ◌≤◌, ◌<◌}
+use native.Mathlib.Omega.{arith}
+use borrow.Author.Rules.{rules}
+use borrow.Author.Tests.{not-false}
+use Rattle.bodies.specs.Apart.{DistantFrom}
+use Rattle.bodies.specs.Passed.{Passed, passed_none, passed_on, has_bounds, has_bound, block_distant}
+use Rattle.bodies.proofs.apart.next_near.Given as goal
+
+-- `bodies::apart::next_near` meets its contract. Assumes nothing.
+abbrev pub invariant-loop-j : goal.invariant-loop-j
+invariant-loop-j l = Passed (DistantFrom l.w l.r l.s l.e) l.from l.n l.j
+
+abbrev pub decreases-loop-j : goal.decreases-loop-j
+decreases-loop-j l = l.n - l.j

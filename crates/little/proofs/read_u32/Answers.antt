@@ -1,0 +1,7 @@
+use Rattle.rules.specs.QueryFile.{word}
+use borrow.Author.Rules.{rules}
+use Rattle.little.proofs.read_u32.Goals as goal
+
+pub returns : goal.returns
+unfolding word
+returns c = c.join.ensures

@@ -1,0 +1,29 @@
+use Prim.Native.Nat.{ℕ, ◌+◌, ◌*◌, ◌≤◌}
+use mathlib.Core.Path.{◌≡◌, refl, sym, ap, ◌∙◌}
+use mathlib.Core.List.{List, [], ◌∷◌, ◌++◌}
+use native.Mathlib.Omega.{arith}
+use lib.ListN.{length, get_or}
+use Rattle.rules.specs.QueryFile.{word_bytes, edition_bytes, trailer_bytes, put}
+use Rattle.little.specs.Put.{one_more}
+use Rattle.little.specs.Stands.{four}
+use Rattle.queries.specs.Writing.{few_bytes}
+use borrow.Author.Rules.{rules}
+use Rattle.queries.proofs.encode_trailer.Goals as goal
+
+-- `queries::encode_trailer` meets its contract: four runs, each right behind the one before. Assumes nothing.
+four_long : (k : goal.Start) → length k.args.form.mark ≡ 4
+four_long k = search rules
+
+pub returns : goal.returns
+unfolding trailer_bytes word_bytes
+returns c =
+    let room : c.args.at + 16 ≤ length s = c.requires.0 in
+    let b0 = get_or c.args.form.mark 0 0 ∷ get_or c.args.form.mark 1 0 ∷ get_or c.args.form.mark 2 0 ∷ get_or c.args.form.mark 3 0 ∷ [] in
+    let b1 = edition_bytes c.args.form in
+    let b2 = word_bytes (c.args.form.size * c.args.count) in
+    let b3 = word_bytes c.args.count in
+    let second = c.write_u32.ensures ∙ ap (λ (n : ℕ). put c.write4-2.new.0 (c.args.at + 8) (word_bytes n)) c.times.ensures in
+    let e1 = one_more c.args.s.now c.write4.new.0 c.write4-2.new.0 c.args.at (c.args.at + 4) b0 b1 c.write4.ensures c.write4-2.ensures refl (omega arith) in
+    let e2 = one_more c.args.s.now c.write4-2.new.0 c.write_u32.new.0 c.args.at (c.args.at + 8) (b0 ++ b1) b2 e1 second refl (omega arith) in
+    one_more c.args.s.now c.write_u32.new.0 c.write_u32-2.new.0 c.args.at (c.args.at + 12) (b0 ++ b1 ++ b2) b3 e2 c.write_u32-2.ensures refl (omega arith)
+    ∙ ap (λ (l : List ℕ). put c.args.s.now c.args.at (l ++ b1 ++ b2 ++ b3)) (sym (four c.args.form.mark (four_long c.before.before.before.before.before.before.before.before.before.before.before.before.before.before.before.before.before.before.before)))

@@ -1,0 +1,16 @@
+use Rattle.rules.specs.QueryFile.{record_by}
+use borrow.Author.Rules.{rules}
+use Rattle.queries.proofs.record.decode_narrow.Goals as goal
+
+pub returns : goal.returns
+unfolding record_by
+returns c =
+    simp (
+      c.read_u32.ensures,
+      c.read_u32-2.ensures,
+      c.read_u32-3.ensures,
+      c.read_u32-4.ensures,
+      c.read_u32-5.ensures,
+      c.read_u32-6.ensures,
+      c.requires.1,
+    )

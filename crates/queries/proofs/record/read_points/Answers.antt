@@ -1,0 +1,21 @@
+use mir.Facts.{to_z-of_z}
+use borrow.Author.Rules.{sfits_of}
+use Rattle.queries.specs.Coordinates.{read_more, read_end}
+use Prim.Native.Nat.{ℕ, ◌≤◌, ◌-◌}
+use mathlib.Core.Path.{◌≡◌, refl, ◌∙◌, subst}
+use native.Mathlib.Omega.{arith}
+use lib.ListN.{length, take, length-set}
+use Rattle.rules.specs.QueryFile.{coordinates_at}
+use Rattle.queries.proofs.record.read_points.Goals as goal
+
+pub loop-i-init : goal.loop-i-init
+unfolding coordinates_at
+loop-i-init c = (omega arith, refl, refl)
+
+pub loop-i-preserved : goal.loop-i-preserved
+loop-i-preserved c =
+    (
+      omega arith,
+      simp length-set c.loop-i.invariant.1,
+      read_more _ _ c.loop-i.p c.loop-i.i c.loop-i.invariant.2 _ (omega arith) (to_z-of_z (sfits_of c.read_i32.type-inv) ∙ c.read_i32.ensures),
+    )

@@ -1,0 +1,29 @@
+use mir.Syntax.{w32}
+use mir.Val.{to_z, of_z}
+use mir.Facts.{to_z-of_z}
+use Rattle.queries.specs.Coordinates.{write_length, write_more}
+use borrow.Author.Rules.{sfits_of}
+use Rattle.little.specs.Put.{put_nil}
+use Prim.Native.Nat.{ℕ, ◌≤◌, ◌-◌}
+use mathlib.Core.List.{List}
+use lib.IntN.{ℤ, pos}
+use lib.Seq.{take-length}
+use mathlib.Core.Path.{◌≡◌, sym, ap, ◌∙◌}
+use native.Mathlib.Omega.{arith}
+use lib.ListN.{length, take, get_or}
+use Rattle.rules.specs.QueryFile.{put}
+use Rattle.rules.specs.QueryFile.{coordinate_bytes}
+use Rattle.queries.proofs.record.write_points.Goals as goal
+
+pub loop-i-init : goal.loop-i-init
+unfolding coordinate_bytes
+loop-i-init c = (omega arith, sym (put_nil _ _))
+
+pub loop-i-preserved : goal.loop-i-preserved
+loop-i-preserved c =
+    (
+      omega arith,
+      write_more c.args.s.now c.args.at c.args.t3 c.loop-i.i (omega arith) c.loop-i.s c.write_i32.new.0
+          (to_z w32 (of_z w32 (get_or c.args.t3 c.loop-i.i (pos 0)))) (omega arith) c.loop-i.invariant.1
+          (to_z-of_z (sfits_of c.write_i32-arg-in-loop-i-1.given)) c.write_i32.ensures,
+    )

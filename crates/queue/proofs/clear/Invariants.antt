@@ -1,0 +1,15 @@
+use mathlib.Core.Path.{◌≡◌, refl, ap, ◌∙◌}
+use mathlib.Core.List.{List, ◌++◌, append-nil}
+use Prim.Native.Nat.{ℕ, ◌-◌, ◌≤◌}
+use native.Mathlib.Omega.{arith}
+use lib.ListN.{length, set, drop, replicate, length-set, drop_of_length-le}
+use borrow.Author.Fill.{fill_more}
+use borrow.Author.Rules.{rules}
+use Rattle.queue.proofs.clear.Given as goal
+
+-- The invariant: the first i words are 0 and the rest are as they were.
+abbrev pub invariant-loop-i : goal.invariant-loop-i
+invariant-loop-i l = (l.words ≡ replicate l.i 0 ++ drop l.i l.initial.words) × (l.i ≤ length l.initial.words) × (length l.words ≡ length l.initial.words)
+
+abbrev pub decreases-loop-i : goal.decreases-loop-i
+decreases-loop-i l = length l.initial.words - l.i

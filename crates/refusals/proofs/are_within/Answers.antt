@@ -1,0 +1,24 @@
+use Prim.Native.Nat.{◌≤◌, ◌-◌}
+use mathlib.Core.Path.{◌≡◌, refl, sym, ◌∙◌}
+use mathlib.Core.Bool.{◌&&◌}
+use native.Mathlib.Omega.{arith}
+use borrow.Author.Rules.{rules, sfits_of}
+use lib.ListN.{length, drop}
+use mir.Facts.{to_z-of_z}
+use Rattle.rules.specs.Numbers.{limits_by, is_coordinate}
+use Rattle.rules.specs.Refusals.{every}
+use Rattle.refusals.specs.Every.{every_next, every_end}
+use Rattle.refusals.proofs.are_within.Goals as goal
+
+pub loop-i-preserved : goal.loop-i-preserved
+loop-i-preserved c =
+    (
+      omega arith,
+      c.loop-i.invariant.1
+          ∙ every_next (is_coordinate (limits_by c.args.longer)) c.args.s.now c.loop-i.all c.is_coordinate-all.result c.loop-i.i _ (omega arith) c.is_coordinate-all.ensures
+          (to_z-of_z (sfits_of c.is_coordinate-arg-1.given)),
+    )
+
+pub returns : goal.returns
+returns c =
+    sym (c.loop-i.invariant.1 ∙ every_end (is_coordinate (limits_by c.args.longer)) c.args.s.now c.loop-i.all c.loop-i.i (omega arith))

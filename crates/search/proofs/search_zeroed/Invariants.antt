@@ -1,0 +1,15 @@
+use mathlib.Core.Path.{sym, ap, ◌∙◌}
+use Prim.Native.Nat.{ℕ, ◌-◌}
+use lib.ListN.{length, replicate}
+use Rattle.search.specs.Levels.{total}
+use Rattle.search.proofs.Running.{Running, running_none, running_ends, running_less, running_goes}
+use borrow.Author.Rules.{rules}
+use native.Mathlib.Omega.{arith}
+use Rattle.search.proofs.search_zeroed.Given as goal
+
+-- The loop is that of `Running`.
+abbrev pub invariant-loop-a : goal.invariant-loop-a
+invariant-loop-a here = Running here.p (length here.initial.queue) here.queue here.l
+
+abbrev pub decreases-loop-a : goal.decreases-loop-a
+decreases-loop-a here = 61 - total here.l.depths

@@ -1,0 +1,16 @@
+use Prim.Native.Nat.{◌-◌}
+use native.Mathlib.Omega.{arith}
+use lib.ListN.{length}
+use Rattle.rules.specs.QueryFile.{record_size}
+use Rattle.queries.specs.Sizes.{record_within}
+use Rattle.answers.specs.Walking.{Walked, walked_none, walked_more, walked_all}
+use Rattle.shift_log.specs.Calls.{bytes_of}
+use Rattle.shift_log.proofs.Logging.{long}
+use Rattle.shift_log.proofs.log_records.Given as goal
+
+-- `shift_log::log_records` meets its contract: record after record. Assumes nothing.
+abbrev pub invariant-loop-i : goal.invariant-loop-i
+invariant-loop-i l = Walked bytes_of l.edition l.file l.first l.count l.initial.queue l.initial.out l.queue l.out l.clean l.i
+
+abbrev pub decreases-loop-i : goal.decreases-loop-i
+decreases-loop-i l = l.count - l.i

@@ -1,0 +1,18 @@
+use borrow.Author.Rules.{rules}
+use native.Mathlib.Omega.{arith}
+use Prim.Native.Nat.{◌+◌, ◌-◌, ◌*◌}
+use mathlib.Core.Path.{◌≡◌}
+use lib.Dec.{eqb}
+use lib.ListN.{get_or}
+use Rattle.text.specs.Text.{kind_of}
+use Rattle.text.proofs.Rows.{Counted, counted_none, counted_more, counted_all, at_most_one}
+use Rattle.text.proofs.count_word.Goals as goal
+
+pub loop-i-preserved : goal.loop-i-preserved
+loop-i-preserved c =
+    counted_more c.args.told.now c.args.n c.args.k c.loop-i.invariant (omega arith) c.one_of-sum.ensures
+
+pub returns : goal.returns
+returns c =
+    let e : c.loop-i.i ≡ c.args.n = omega arith in
+    counted_all c.args.told.now c.args.n c.args.k (rw e at c.loop-i.invariant)

@@ -1,0 +1,16 @@
+use borrow.Author.Rules.{rules}
+use native.Mathlib.Omega.{arith}
+use Prim.Native.Nat.{◌+◌, ◌-◌, ◌*◌}
+use mathlib.Core.Path.{◌≡◌}
+use lib.Dec.{eqb}
+use lib.ListN.{get_or}
+use Rattle.text.specs.Text.{kind_of}
+use Rattle.text.proofs.Rows.{Counted, counted_none, counted_more, counted_all, at_most_one}
+use Rattle.text.proofs.count_word.Given as goal
+
+-- `text::count_word` meets its contract. The loop's invariant: what is counted and the tally of what is left make the whole. Assumes nothing.
+abbrev pub invariant-loop-i : goal.invariant-loop-i
+invariant-loop-i l = Counted l.told l.n l.k l.i l.sum
+
+abbrev pub decreases-loop-i : goal.decreases-loop-i
+decreases-loop-i l = l.n - l.i
