@@ -4,4 +4,4 @@ use Rattle.boxes.proofs.half.Goals as goal
 
 pub returns : goal.returns
 returns c =
-    rw (c.half_by_lem.ensures, c.index_bits.ensures, c.index_one.ensures) (half_by_lem c.args.p c.args.high c.args.w c.requires)
+    rw (c.half_by.ensures, c.index_bits.ensures, c.index_one.ensures) (half_by_lem c.args.p c.args.high c.args.w c.requires)

@@ -8,5 +8,5 @@ use Rattle.little.proofs.stands4.Goals as goal
 
 pub returns : goal.returns
 returns c =
-    let e : length c.args.t3 ≡ 4 = omega arith in
-    stands_four c.args.s.now c.args.at _ _ _ _ ∙ ap (stands c.args.s.now c.args.at) (sym (four c.args.t3 e))
+    let e : length c.args.bytes ≡ 4 = omega arith in
+    stands_four c.args.s.now c.args.at _ _ _ _ ∙ ap (stands c.args.s.now c.args.at) (sym (four c.args.bytes e))

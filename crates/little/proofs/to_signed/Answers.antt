@@ -12,5 +12,5 @@ returns-then-x-lt2147483648 c = sym (signed_is c.args.x (omega arith))
 
 pub returns-else-x-lt2147483648 : goal.returns-else-x-lt2147483648
 returns-else-x-lt2147483648 c =
-    let e : 4294967295 - (4294967295 - c.args.x) ≡ x = omega arith in
+    let e : 4294967295 - (4294967295 - c.args.x) ≡ c.args.x = omega arith in
     ap (to_z w32) e ∙ sym (signed_is c.args.x (omega arith))

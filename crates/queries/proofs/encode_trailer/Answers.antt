@@ -17,7 +17,7 @@ four_long k = search rules
 pub returns : goal.returns
 unfolding trailer_bytes word_bytes
 returns c =
-    let room : c.args.at + 16 ≤ length s = c.requires.0 in
+    let room : c.args.at + 16 ≤ length c.args.s.now = c.requires.0 in
     let b0 = get_or c.args.form.mark 0 0 ∷ get_or c.args.form.mark 1 0 ∷ get_or c.args.form.mark 2 0 ∷ get_or c.args.form.mark 3 0 ∷ [] in
     let b1 = edition_bytes c.args.form in
     let b2 = word_bytes (c.args.form.size * c.args.count) in

@@ -7,10 +7,10 @@ use Rattle.queries.proofs.fetch.Goals as goal
 
 -- `queries::fetch` meets its contract: in each arm, what the file opened to. Assumes nothing.
 refused : (c : goal.After-o-1) → (open_refusal (file_form c.args.s.now) c.args.s.now ≡ c.in-Refused.number) × (c.in-Refused.number ≡ 0 → ⊥)
-refused c = opened_refused (file_form c.args.s.now) c.args.s.now _ (sym c.open_file-o.ensures ∙ c.in-Refused.is)
+refused c = let c.args.s.now = c.args.s.now in opened_refused (file_form c.args.s.now) c.args.s.now _ (sym c.open_file-o.ensures ∙ c.in-Refused.is)
 
 holds : (c : goal.After-o-in-Records-1) → Holds (file_form c.args.s.now) c.args.s.now c.in-Records.edition c.in-Records.first c.in-Records.count
-holds c = opened_records (file_form c.args.s.now) c.args.s.now _ _ _ (sym c.open_file-o.ensures ∙ c.in-Records.is)
+holds c = let c.args.s.now = c.args.s.now in opened_records (file_form c.args.s.now) c.args.s.now _ _ _ (sym c.open_file-o.ensures ∙ c.in-Records.is)
 
 pub returns-then-count-n : goal.returns-then-count-n
 unfolding fetched fetch_unless

@@ -8,6 +8,7 @@ use Rattle.queries.proofs.write_record.Goals as goal
 -- the number that the tests come to
 number : (c : goal.After-refusal_with-number) → c.refusal_with-number.result ≡ write_refusal c.args.edition c.args.s.now c.args.at c.args.r
 number c =
+    let c.args = c.args in
     simp (
       c.refusal_with-number.ensures,
       c.in_edition.ensures,

@@ -12,7 +12,7 @@ use Rattle.queries.proofs.record.encode_narrow.Goals as goal
 pub returns : goal.returns
 unfolding bytes_by word_bytes
 returns c =
-    let room : c.args.at + 116 ≤ length s = c.requires in
+    let room : c.args.at + 116 ≤ length c.args.s.now = c.requires in
     let b0 = c.args.r.kind ∷ c.args.r.flags ∷ c.args.r.byte2 ∷ c.args.r.byte3 ∷ [] in
     let b1 = word_bytes c.args.r.id in
     let b2 = word_bytes c.args.r.dx in

@@ -1,0 +1,8 @@
+use Rattle.answers.specs.Eight.{eight}
+use Rattle.answers.specs.Walking.{answered}
+use borrow.Author.Rules.{rules}
+use Rattle.answers.proofs.answer_at.Goals as goal
+
+pub returns : goal.returns
+returns c =
+    answered eight c.search_at-answer.ensures.0 c.search_at-answer.ensures.1 c.numbers-n.ensures c.id_at.ensures c.write_eight.ensures c.is_answered.ensures c.requires.zero

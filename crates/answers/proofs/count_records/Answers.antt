@@ -1,0 +1,5 @@
+use borrow.Author.Rules.{rules}
+use Rattle.answers.proofs.count_records.Goals as goal
+
+pub returns : goal.returns
+returns c = rw c.file_form-form.ensures at c.count_form.ensures

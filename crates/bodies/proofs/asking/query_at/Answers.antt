@@ -1,0 +1,6 @@
+use borrow.Author.Rules.{rules}
+use mathlib.Core.Path.{sym}
+use Rattle.bodies.proofs.asking.query_at.Goals as goal
+
+pub returns : goal.returns
+returns c = rw (sym c.ask_at-ask.ensures.0) c.query_of.ensures

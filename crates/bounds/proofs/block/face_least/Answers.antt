@@ -1,0 +1,29 @@
+use borrow.Author.Rules.{rules, sfits_of}
+use mir.Val.{SFits}
+use mir.Syntax.{w32}
+use mathlib.Core.Path.{◌≡◌, ap₂, ◌∙◌}
+use lib.IntN.{ℤ, pos, ◌+ℤ◌, ◌-ℤ◌}
+use lib.ListN.{get_or}
+use Prim.Native.Nat.{◌+◌}
+use mir.Facts.{to_z-of_z}
+use Rattle.whole.specs.Defs.{min_z}
+use Rattle.whole.specs.Read.{back, back₂}
+use Rattle.bounds.specs.Block.{Small}
+use Rattle.bounds.proofs.block.face_least.Goals as goal
+
+pub fourth-requires : goal.fourth-requires
+fourth-requires c =
+    let x : SFits w32 (get_or c.args.s.now c.args.at (pos 0)) = sfits_of c.fourth-arg-1.given in
+    let y : SFits w32 (get_or c.args.s.now (c.args.at + 3) (pos 0)) = sfits_of c.fourth-arg-2-1.given in
+    let z : SFits w32 (get_or c.args.s.now (c.args.at + 6) (pos 0)) = sfits_of c.fourth-arg-3-1.given in
+    rw (to_z-of_z x, to_z-of_z y, to_z-of_z z) (c.requires.first, (c.requires.second, c.requires.third))
+
+pub returns : goal.returns
+returns c =
+    let x : SFits w32 (get_or c.args.s.now c.args.at (pos 0)) = sfits_of c.fourth-arg-1.given in
+    let y : SFits w32 (get_or c.args.s.now (c.args.at + 3) (pos 0)) = sfits_of c.fourth-arg-2-1.given in
+    let z : SFits w32 (get_or c.args.s.now (c.args.at + 6) (pos 0)) = sfits_of c.fourth-arg-3-1.given in
+    let corners = back₂ w32 w32 min_z x y c.lesser-corners.type_inv c.lesser-corners.ensures in
+    let last = back w32 c.fourth.type_inv (c.fourth.ensures ∙ (λ i. to_z-of_z y i +ℤ to_z-of_z z i -ℤ to_z-of_z x i)) in
+    let others = back w32 c.lesser-others.type_inv (c.lesser-others.ensures ∙ ap₂ min_z (to_z-of_z z) last) in
+    back w32 c.lesser.type_inv (c.lesser.ensures ∙ ap₂ min_z corners others)

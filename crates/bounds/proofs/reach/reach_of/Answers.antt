@@ -1,0 +1,18 @@
+use Rattle.gap.specs.Cube.{cube_within}
+use Rattle.bounds.specs.Reach.{reach_is}
+use borrow.Author.Rules.{rules}
+use Rattle.bounds.proofs.reach.reach_of.Goals as goal
+
+pub over_cube-x-requires : goal.over_cube-x-requires
+over_cube-x-requires c = c.triangle_at.ensures.1
+
+pub over_cube-y-requires : goal.over_cube-y-requires
+over_cube-y-requires c = c.triangle_at-2.ensures.1
+
+pub over_cube-z-requires : goal.over_cube-z-requires
+over_cube-z-requires c = c.triangle_at-3.ensures.1
+
+pub returns : goal.returns
+returns c =
+    reach_is (rw c.triangle_at.ensures.0 at c.over_cube-x.ensures) (rw c.triangle_at-2.ensures.0 at c.over_cube-y.ensures) (rw c.triangle_at-3.ensures.0 at c.over_cube-z.ensures)
+    (record { x = rw c.over_cube-x.ensures (cube_within c.triangle_at.ensures.1); y = rw c.over_cube-y.ensures (cube_within c.triangle_at-2.ensures.1); z = rw c.over_cube-z.ensures (cube_within c.triangle_at-3.ensures.1) })

@@ -1,0 +1,6 @@
+use Rattle.controller.proofs.Writing.{puts}
+use borrow.Author.Rules.{rules}
+use Rattle.controller.proofs.taperhive_trailer.Goals as goal
+
+pub returns : goal.returns
+returns c = puts c.write_trailer.ensures c.number.ensures

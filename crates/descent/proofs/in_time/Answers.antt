@@ -1,0 +1,5 @@
+use borrow.Author.Rules.{rules}
+use Rattle.descent.proofs.in_time.Goals as goal
+
+pub returns : goal.returns
+returns c = rw c.last_moment.ensures

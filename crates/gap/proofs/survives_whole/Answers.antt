@@ -1,0 +1,48 @@
+use borrow.Author.Rules.{rules}
+use lib.Dec.{lit≤}
+use Rattle.kernel.specs.Ranges.{one_part}
+use Rattle.gap.specs.Prepared.{coordinates, pair_prepared, misses_z, misses_x, goes_by_y}
+use Rattle.gap.proofs.survives_whole.Goals as goal
+
+-- `gap::survives_whole` meets its contract.
+pub kernel_at-requires : goal.kernel_at-requires
+kernel_at-requires c = (lit≤ tt, coordinates c.args.r c.args.words c.requires)
+
+pub meets_whole-requires : goal.meets_whole-requires
+meets_whole-requires c =
+    let q = pair_prepared c.args.r c.args.words c.requires in
+    (rw c.kernel_at.ensures (one_part q.ranged.z), q.ranged.dz)
+
+pub kernel_at-requires-then-meets_whole : goal.kernel_at-requires-then-meets_whole
+kernel_at-requires-then-meets_whole c = (lit≤ tt, coordinates c.args.r c.args.words c.requires)
+
+pub meets_whole-requires-then-meets_whole : goal.meets_whole-requires-then-meets_whole
+meets_whole-requires-then-meets_whole c =
+    let q = pair_prepared c.args.r c.args.words c.requires in
+    (rw c.kernel_at-then-meets_whole.ensures (one_part q.ranged.x), q.ranged.dx)
+
+pub kernel_at-requires-then-meets_whole-2 : goal.kernel_at-requires-then-meets_whole-2
+kernel_at-requires-then-meets_whole-2 c = (lit≤ tt, coordinates c.args.r c.args.words c.requires)
+
+pub meets_whole-requires-then-meets_whole-2 : goal.meets_whole-requires-then-meets_whole-2
+meets_whole-requires-then-meets_whole-2 c =
+    let q = pair_prepared c.args.r c.args.words c.requires in
+    (rw c.kernel_at-then-meets_whole-2.ensures (one_part q.ranged.y), q.ranged.dy)
+
+pub returns-then-meets_whole-2 : goal.returns-then-meets_whole-2
+returns-then-meets_whole-2 c =
+    goes_by_y c.args.r c.args.words
+    (rw c.kernel_at.ensures at c.meets_whole.ensures) c.if-meets_whole.true
+    (rw c.kernel_at-then-meets_whole.ensures at c.meets_whole-then-meets_whole.ensures) c.if-meets_whole-2.true
+    (rw c.kernel_at-then-meets_whole-2.ensures at c.meets_whole-then-meets_whole-2.ensures)
+
+pub returns-else-meets_whole-2 : goal.returns-else-meets_whole-2
+returns-else-meets_whole-2 c =
+    misses_x c.args.r c.args.words
+    (rw c.kernel_at.ensures at c.meets_whole.ensures) c.if-meets_whole.true
+    (rw c.kernel_at-then-meets_whole.ensures at c.meets_whole-then-meets_whole.ensures) c.if-meets_whole-2.false
+
+pub returns-else-meets_whole : goal.returns-else-meets_whole
+returns-else-meets_whole c =
+    misses_z c.args.r c.args.words
+    (rw c.kernel_at.ensures at c.meets_whole.ensures) c.if-meets_whole.false

@@ -1,0 +1,15 @@
+use mathlib.Core.Path.{ap, ◌∙◌}
+use Prim.Native.Nat.{ℕ}
+use mathlib.Core.List.{List}
+use native.Mathlib.Omega.{arith}
+use Rattle.text.specs.Text.{rows, file_text}
+use Rattle.page.proofs.Paging.{rows_put, answers_room, printed_as}
+use borrow.Author.Rules.{rules}
+use Rattle.page.proofs.write_records.Goals as goal
+
+pub returns : goal.returns
+returns c =
+    printed_as (answers_room c.args.count c.answer_records.new.1.1.1.1.1.0 c.args.out.now (omega (arith, c.answer_records.auto.1.1.1.1.1.0)) (omega arith))
+    (ap (λ (l : List ℕ). file_text (rows c.args.count l)) c.answer_records.ensures.0
+    ∙ ap file_text (rows_put c.args.edition c.args.file.now 4096 c.args.count c.args.first _))
+    c.write_answers.ensures

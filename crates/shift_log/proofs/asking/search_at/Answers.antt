@@ -1,0 +1,31 @@
+use mathlib.Core.Path.{◌≡◌, sym, ap, ◌∙◌}
+use Prim.Native.Nat.{ℕ}
+use native.Mathlib.Omega.{arith}
+use borrow.Author.Rules.{rules}
+use lib.ListN.{length, replicate}
+use Rattle.rules.specs.declared.Record.{Record}
+use Rattle.rules.specs.QueryFile.{record_at}
+use Rattle.rules.specs.Refusals.{search_refusal}
+use Rattle.rules.specs.Search.{search as searched}
+use Rattle.search.proofs.Running.{search_refused, after_refusal, after_answer}
+use Rattle.shift_log.proofs.asking.search_at.Goals as goal
+
+pub returns-then-number-ne0 : goal.returns-then-number-ne0
+returns-then-number-ne0 c =
+    let r = record_at c.args.edition c.args.s.now c.args.at in
+    let words = length c.args.queue.now in
+    let e = search_refused r words c.search_refusal-number.result (c.search_refusal-number.ensures ∙ ap (λ (x : Record). search_refusal x words) c.decode-r.ensures) c.if-number-ne0.true in
+    (e, after_refusal r words c.search_refusal-number.result c.args.queue.now e)
+
+pub search_levels-requires : goal.search_levels-requires
+search_levels-requires c =
+    record {
+      none = ap (λ (words : ℕ). search_refusal c.decode-r.result words) c.clear_unless.auto.0 ∙ sym c.search_refusal-number.ensures ∙ omega (arith, c.if-number-ne0.false);
+      zero = c.clear_unless.ensures ∙ ap (λ (n : ℕ). replicate n 0) (sym c.clear_unless.auto.0);
+    }
+
+pub returns : goal.returns
+returns c =
+    let r = record_at c.args.edition c.args.s.now c.args.at in
+    let f = c.search_levels.ensures.0 ∙ ap (λ (x : Record). searched x (length c.clear_unless.new.0)) c.decode-r.ensures ∙ ap (searched r) c.clear_unless.auto.0 in
+    (f, c.search_levels.ensures.1.0 ∙ c.clear_unless.ensures ∙ sym (rw f at (after_answer c.search_levels.result c.search_levels.ensures.1.1 c.args.queue.now)))

@@ -1,0 +1,5 @@
+use borrow.Author.Rules.{rules}
+use Rattle.shift_log.proofs.count_entries.Goals as goal
+
+pub returns : goal.returns
+returns c = rw c.answer_form-form.ensures at c.count_form.ensures
