@@ -4,7 +4,7 @@ use mathlib.Core.List.{List, [], ◌∷◌, ◌++◌}
 use Prim.Native.Nat.{ℕ, ◌+◌, ◌<◌, max}
 use native.Mathlib.Omega.{arith}
 use lib.Dec.{leb}
-use lib.ListN.{length, take, drop, length_map, length-drop}
+use lib.ListN.{length, take, drop, length-map, length-drop}
 use lib.Seq.{length-take-le, take_at, drop_at}
 use borrow.Author.Tests.{le-leb, lt-leb}
 use Rattle.rules.specs.declared.Corner.{Corner}
@@ -62,7 +62,7 @@ module _ (p : Pair) (l : Level) (old : List ℕ) (x : Splitting p old l) where
   }
 
   some : 0 < length (boxes old l)
-  some = rw (length_map, length-take-le l.size old (omega (arith, x.fine.size, x.fine.used, x.fine.twice))) x.some
+  some = rw (length-map, length-take-le l.size old (omega (arith, x.fine.size, x.fine.used, x.fine.twice))) x.some
 
   after : (go : Below) → after_level (asked p) l.depths go (through l.count l.corner (boxes old l)) ≡ if_room (leb (length new) p.room) l.corner l.count (go depths new)
   after go = after_some (asked p) l.depths go l.count l.corner (boxes old l) some
@@ -85,7 +85,7 @@ module _ (p : Pair) (l : Level) (old : List ℕ) (x : Splitting p old l) where
       brought = rw copied (take_at (take m (drop p.room q₂)) (drop m q₂) m long)
 
       count : length new ≡ m
-      count = sym (ap length g.next.placed) ∙ length_map (take m (drop p.room q₂)) box_of ∙ long
+      count = sym (ap length g.next.placed) ∙ length-map (take m (drop p.room q₂)) box_of ∙ long
 
       pub splits_level : SplitIs p l old q₃ (Goes (record { depths = depths; size = m; used = used; corner = l.corner; count = l.count }))
       unfolding if_room

@@ -39,5 +39,5 @@ pub returns-else-out-count : goal.returns-else-out-count
 returns-else-out-count c =
     let h = holds c.before.before.before.before.before.before.before.before.before in
     answers (all_good c.args.file.now c.args.out.now h.none (omega (arith, h.counts)))
-    (c.answer_records.ensures.0 ∙ ap (λ (l : List ℕ). put c.args.out.now 0 l) (told_place c.args.file.now h.names h.starts h.counts eight (length c.args.queue.now)))
-    (c.answer_records.ensures.1 ∙ queue_place c.args.file.now h.names h.starts h.counts c.args.queue.now)
+    (c.answer_records.ensures.out_after ∙ ap (λ (l : List ℕ). put c.args.out.now 0 l) (told_place c.args.file.now h.names h.starts h.counts eight (length c.args.queue.now)))
+    (c.answer_records.ensures.queue_after ∙ queue_place c.args.file.now h.names h.starts h.counts c.args.queue.now)

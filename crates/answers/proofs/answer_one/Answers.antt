@@ -46,5 +46,5 @@ returns-in-Refused c =
 pub returns-else-out-lt8 : goal.returns-else-out-lt8
 returns-else-out-lt8 c =
     let h = holds c.before.before.before.before.before.before.before.before.before.before.before in
-    let d = at_place eight c.args.file.now c.args.n h.names h.starts c.place_of-at.ensures (alone eight c.answer_records.ensures.0 c.answer_records.ensures.1) in
+    let d = at_place eight c.args.file.now c.args.n h.names h.starts c.place_of-at.ensures (alone eight c.answer_records.ensures.out_after c.answer_records.ensures.queue_after) in
     answers (one_good c.args.file.now c.args.out.now h.none c.args.n (omega (arith, h.counts)) (omega arith)) d.told d.left

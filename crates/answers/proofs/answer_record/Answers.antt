@@ -31,4 +31,4 @@ answer_records-requires c =
 
 pub returns : goal.returns
 returns c =
-    known eight (back c.args.r _ _ c.requires.0 c.requires.1 (omega arith) c.encode.ensures) (alone eight c.answer_records.ensures.0 c.answer_records.ensures.1)
+    known eight (back c.args.r _ _ c.requires.0 c.requires.1 (omega arith) c.encode.ensures) (alone eight c.answer_records.ensures.out_after c.answer_records.ensures.queue_after)

@@ -11,7 +11,7 @@ use Rattle.bodies.proofs.hear_pair.Goals as goal
 
 -- what was heard with the query
 more : (c : goal.After-is_over invariant-loop decreases-loop) → Going (c.loop-k.k + 1) (pair_queries c.args.w (positions c.args.a0.now c.args.a1.now) (positions c.args.b0.now c.args.b1.now) c.args.i c.args.j)
-    (pair_left c.args.w (positions c.args.a0.now c.args.a1.now) (positions c.args.b0.now c.args.b1.now) c.args.i c.args.j (c.loop-k.k + 1)) c.args.queue.now c.hear_query-sofar.new.1.1.1.1.1.1.1.1.0 c.args.first c.hear_query-sofar.result
+    (pair_left c.args.w (positions c.args.a0.now c.args.a1.now) (positions c.args.b0.now c.args.b1.now) c.args.i c.args.j (c.loop-k.k + 1)) c.args.queue.now c.hear_query-sofar.new.queue c.args.first c.hear_query-sofar.result
 more c =
     let c.before.before.before.before.before = c.before.before.before.before.before.before in
     going_more _ 1 _ _ _ _ _ _ _ _ c.loop-k.invariant.1.0 (pair_next _ _ _ _ _ c.loop-k.k (omega arith)) _ (omega arith) _ _ c.hear_query-sofar.ensures

@@ -32,7 +32,7 @@ returns c =
     let words = length c.args.queue.now in
     record {
       says = heard_one words c.args.sofar (asked c.args.w (positions c.args.a0.now c.args.a1.now) (positions c.args.b0.now c.args.b1.now) c.args.i c.args.j (1 + c.args.k) (ask_at c.args.k)) _ _ c.requires.to_hear.goes
-          (c.numbers.ensures ∙ ap told (c.search_accepted-answer.ensures.0 ∙ ap (λ (r : Record). searched r words) (asks c.before.before.before.before.before.before))) (c.heard.ensures.says _);
-      kept = c.search_accepted-answer.ensures.1.0;
+          (c.numbers.ensures ∙ ap told (c.search_accepted-answer.ensures.value ∙ ap (λ (r : Record). searched r words) (asks c.before.before.before.before.before.before))) (c.heard.ensures.says _);
+      kept = c.search_accepted-answer.ensures.queue_unchanged;
       grows = c.heard.ensures.grows;
     }

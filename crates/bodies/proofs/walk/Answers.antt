@@ -16,13 +16,13 @@ pub hear_bodies-requires : goal.hear_bodies-requires
 hear_bodies-requires c =
     record {
       to_walk = record {
-        none = ap (λ (n : ℕ). body_refusal c.args.w (body c.args.m c.args.a0.now c.args.a1.now) (body c.args.n c.args.b0.now c.args.b1.now) n) c.clear_unless.auto.0 ∙ c.requires.none;
+        none = ap (λ (n : ℕ). body_refusal c.args.w (body c.args.m c.args.a0.now c.args.a1.now) (body c.args.n c.args.b0.now c.args.b1.now) n) c.clear_unless.auto.queue ∙ c.requires.none;
         of_a_lem = c.requires.of_a_lem;
         of_b_lem = c.requires.of_b_lem;
       };
-      zero = c.clear_unless.ensures ∙ ap (λ (n : ℕ). replicate n 0) (sym c.clear_unless.auto.0);
+      zero = c.clear_unless.ensures ∙ ap (λ (n : ℕ). replicate n 0) (sym c.clear_unless.auto.queue);
     }
 
 pub returns : goal.returns
 returns c =
-    answered _ _ _ c.args.queue.now _ _ _ c.requires.none c.clear_unless.ensures c.clear_unless.auto.0 c.hear_bodies.ensures
+    answered _ _ _ c.args.queue.now _ _ _ c.requires.none c.clear_unless.ensures c.clear_unless.auto.queue c.hear_bodies.ensures

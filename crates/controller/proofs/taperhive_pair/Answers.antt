@@ -31,13 +31,13 @@ returns-then-told-lt8 c =
 
 pub answer_record-requires : goal.answer_record-requires
 answer_record-requires c =
-    (c.record_of-query.ensures.1, ap (λ (x : Record). is_wide x.edition) c.record_of-query.ensures.0 ∙ ap is_wide c.range_of-range.ensures ∙ wide_range c.args.edition, omega (arith, c.if-told-lt8.false))
+    (c.record_of-query.ensures.held, ap (λ (x : Record). is_wide x.edition) c.record_of-query.ensures.value ∙ ap is_wide c.range_of-range.ensures ∙ wide_range c.args.edition, omega (arith, c.if-told-lt8.false))
 
 pub returns : goal.returns
 returns c =
     let is = sym c.is_edition.ensures ∙ not-false _ c.if-not-is_edition.false in
-    let same = c.record_of-query.ensures.0
+    let same = c.record_of-query.ensures.value
     ∙ ap (λ (n : ℕ). record_of n c.args.kind c.args.flags c.args.id c.args.dx c.args.dy c.args.dz c.args.tolerance c.args.budget c.args.cap c.args.points.now) c.range_of-range.ensures in
     answers (pair_good c.args.edition c.args.points.now c.args.told.now is (omega (arith, c.if-points-lt24.false)) (omega (arith, c.if-told-lt8.false)))
-    (c.answer_record.ensures.0 ∙ ap (λ (x : Record). put c.args.told.now 0 (tells x (length c.args.queue.now))) same)
-    (c.answer_record.ensures.1 ∙ ap (λ (x : Record). queue_after (searched x (length c.args.queue.now)) c.args.queue.now) same)
+    (c.answer_record.ensures.out_after ∙ ap (λ (x : Record). put c.args.told.now 0 (tells x (length c.args.queue.now))) same)
+    (c.answer_record.ensures.queue_after ∙ ap (λ (x : Record). queue_after (searched x (length c.args.queue.now)) c.args.queue.now) same)

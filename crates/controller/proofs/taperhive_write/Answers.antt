@@ -10,4 +10,4 @@ returns-then-points-lt24 c =
 
 pub returns : goal.returns
 returns c =
-    given_written c.args.edition c.args.points.now c.args.out.now c.args.at _ c.record_of-pair.ensures.0 (omega (arith, c.if-points-lt24.false)) c.write_record.ensures c.number.ensures
+    given_written c.args.edition c.args.points.now c.args.out.now c.args.at _ c.record_of-pair.ensures.value (omega (arith, c.if-points-lt24.false)) c.write_record.ensures c.number.ensures

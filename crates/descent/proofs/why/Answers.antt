@@ -15,4 +15,4 @@ pub returns : goal.returns
 returns c =
     let words = length c.args.queue.now in
     let none : ask_refusal c.args.r words c.args.at ≡ 0 = sym c.ask_refusal-number.ensures ∙ omega (arith, c.if-number-ne0.false) in
-    (c.why_accepted.ensures.0, c.why_accepted.ensures.1 ∙ cleared c.args.r words c.args.at none c.args.queue.now)
+    (c.why_accepted.ensures.value, c.why_accepted.ensures.queue_after ∙ cleared c.args.r words c.args.at none c.args.queue.now)

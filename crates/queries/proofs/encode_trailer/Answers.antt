@@ -22,8 +22,8 @@ returns c =
     let b1 = edition_bytes c.args.form in
     let b2 = word_bytes (c.args.form.size * c.args.count) in
     let b3 = word_bytes c.args.count in
-    let second = c.write_u32.ensures ∙ ap (λ (n : ℕ). put c.write4-2.new.0 (c.args.at + 8) (word_bytes n)) c.times.ensures in
-    let e1 = one_more c.args.s.now c.write4.new.0 c.write4-2.new.0 c.args.at (c.args.at + 4) b0 b1 c.write4.ensures c.write4-2.ensures refl (omega arith) in
-    let e2 = one_more c.args.s.now c.write4-2.new.0 c.write_u32.new.0 c.args.at (c.args.at + 8) (b0 ++ b1) b2 e1 second refl (omega arith) in
-    one_more c.args.s.now c.write_u32.new.0 c.write_u32-2.new.0 c.args.at (c.args.at + 12) (b0 ++ b1 ++ b2) b3 e2 c.write_u32-2.ensures refl (omega arith)
+    let second = c.write_u32.ensures ∙ ap (λ (n : ℕ). put c.write4-2.new.s (c.args.at + 8) (word_bytes n)) c.times.ensures in
+    let e1 = one_more c.args.s.now c.write4.new.s c.write4-2.new.s c.args.at (c.args.at + 4) b0 b1 c.write4.ensures c.write4-2.ensures refl (omega arith) in
+    let e2 = one_more c.args.s.now c.write4-2.new.s c.write_u32.new.s c.args.at (c.args.at + 8) (b0 ++ b1) b2 e1 second refl (omega arith) in
+    one_more c.args.s.now c.write_u32.new.s c.write_u32-2.new.s c.args.at (c.args.at + 12) (b0 ++ b1 ++ b2) b3 e2 c.write_u32-2.ensures refl (omega arith)
     ∙ ap (λ (l : List ℕ). put c.args.s.now c.args.at (l ++ b1 ++ b2 ++ b3)) (sym (four c.args.form.mark (four_long c.before.before.before.before.before.before.before.before.before.before.before.before.before.before.before.before.before.before.before)))

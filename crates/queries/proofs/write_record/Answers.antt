@@ -32,5 +32,5 @@ encode-requires c =
 
 pub returns : goal.returns
 returns c =
-    done_write (write_refusal c.args.edition c.args.s.now c.args.at c.args.r) c.args.s.now c.args.at (record_bytes c.args.edition c.args.r) c.refusal_with-number.result c.encode.new.0
+    done_write (write_refusal c.args.edition c.args.s.now c.args.at c.args.r) c.args.s.now c.args.at (record_bytes c.args.edition c.args.r) c.refusal_with-number.result c.encode.new.s
     (number c.before.before.before.before.before) c.if-number-ne0.false c.encode.ensures

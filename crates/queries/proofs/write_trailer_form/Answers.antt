@@ -24,5 +24,5 @@ returns-then-number-ne0 c =
 
 pub returns : goal.returns
 returns c =
-    done_write (trailer_refusal c.args.form c.args.s.now c.args.at c.args.count) c.args.s.now c.args.at (trailer_bytes c.args.form c.args.count) c.first-number.result c.encode_trailer.new.0
+    done_write (trailer_refusal c.args.form c.args.s.now c.args.at c.args.count) c.args.s.now c.args.at (trailer_bytes c.args.form c.args.count) c.first-number.result c.encode_trailer.new.s
     (number c.before.before.before.before.before) c.if-number-ne0.false c.encode_trailer.ensures

@@ -38,5 +38,5 @@ returns-then-not-room c =
 pub returns : goal.returns
 returns c =
     ruled c.args.file.now c.args.n c.args.at c.args.room c.args.queue.now (there c.before.before.before.before.before.before.before.before) (none c.before.before.before.before.before) (not-false _ c.if-not-room.false)
-    (c.why_accepted.ensures.0 ∙ ap (λ (f : Fetched). why_search f.query (length c.args.queue.now) c.args.at) c.fetch-f.ensures)
-    c.why_accepted.ensures.1
+    (c.why_accepted.ensures.value ∙ ap (λ (f : Fetched). why_search f.query (length c.args.queue.now) c.args.at) c.fetch-f.ensures)
+    c.why_accepted.ensures.queue_after

@@ -25,6 +25,6 @@ pub returns : goal.returns
 returns c =
     let four = c.args.x.level ∷ c.args.x.depths.t ∷ c.args.x.depths.u ∷ c.args.x.depths.v ∷ [] in
     let more = c.args.x.index.t ∷ c.args.x.index.u ∷ c.args.x.index.v ∷ c.axis_number.result ∷ [] in
-    let eight = one_more c.args.out.now c.write_four.new.0 c.write_four-2.new.0 0 4 four more c.write_four.ensures c.write_four-2.ensures refl (omega (arith, c.requires.0)) in
-    one_more c.args.out.now c.write_four-2.new.0 _ 0 8 (four ++ more) (c.side_number.result ∷ []) eight (put_one c.write_four-2.new.0 8 c.side_number.result (omega (arith, c.requires.0, c.write_four.auto.0, c.write_four-2.auto.0))) refl (omega (arith, c.requires.0))
+    let eight = one_more c.args.out.now c.write_four.new.out c.write_four-2.new.out 0 4 four more c.write_four.ensures c.write_four-2.ensures refl (omega (arith, c.requires.0)) in
+    one_more c.args.out.now c.write_four-2.new.out _ 0 8 (four ++ more) (c.side_number.result ∷ []) eight (put_one c.write_four-2.new.out 8 c.side_number.result (omega (arith, c.requires.0, c.write_four.auto.out, c.write_four-2.auto.out))) refl (omega (arith, c.requires.0))
     ∙ rw (c.axis_number.ensures, c.side_number.ensures)

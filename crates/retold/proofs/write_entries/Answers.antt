@@ -12,7 +12,7 @@ use Rattle.retold.proofs.write_entries.Goals as goal
 
 pub returns : goal.returns
 returns c =
-    printed_as (answers_room c.args.count c.tell_entries.new.1.1.1.0 c.args.out.now (omega (arith, c.tell_entries.auto.1.1.1.0)) (omega arith))
+    printed_as (answers_room c.args.count c.tell_entries.new.out c.args.out.now (omega (arith, c.tell_entries.auto.out)) (omega arith))
     (ap (λ (l : List ℕ). file_text (rows c.args.count l)) c.tell_entries.ensures
     ∙ ap file_text (rows_front (λ (e : Entry). e.id) (λ (e : Entry). e.told) c.args.count (read_from entry_at 32 c.args.log.now c.args.first c.args.count) _ (length_read entry_at 32 c.args.log.now c.args.count c.args.first)))
     c.write_answers.ensures

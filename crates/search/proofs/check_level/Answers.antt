@@ -18,6 +18,7 @@ use Rattle.search.proofs.Checking.{Checking, checking_none, one_box_lem, checks_
 use borrow.Author.Rules.{rules}
 use native.Mathlib.Omega.{arith}
 use Rattle.search.proofs.check_level.Goals as goal
+use Rattle.search.proofs.check_level.Goals.{then-alive-m+in-Recorded, else-alive-m}
 
 -- The loop is that of `Checking`. As many boxes are counted as there are before the one that is checked.
 some : (m : ℕ) → (m ≡ 0 → ⊥) → 0 < m
@@ -108,16 +109,13 @@ loop-i-preserved-then-alive c =
     let left : c.args.l.count + c.loop-i.i < c.args.p.budget = omega (arith, c.loop-i.invariant.1.0.within, c.loop-i-test.true) in
     let one : c.args.l.count + (c.loop-i.i + 1) ≡ c.args.l.count + c.loop-i.i + 1 = omega arith in
     let alive = rw c.unpack-b.ensures at (sym c.survives_in-alive.ensures ∙ c.if-alive.true) in (
-      ⊎_elim
-          (λ w.
-          let t = (and-eq-true_iff c.survives_in-alive.result (eqb c.loop-i.m 0)).0 w.0.taken in
-          let g = w.4.given in
-          subst (λ (d : Corner). Checking c.args.p c.args.l c.args.queue.now (set c.loop-i.queue c.loop-i.m (get_or c.loop-i.queue c.loop-i.i 0)) d (c.args.l.count + (c.loop-i.i + 1)) (c.loop-i.i + 1) (c.loop-i.m + 1)) (sym w.6)
-          (subst (λ (n : ℕ). Checking c.args.p c.args.l c.args.queue.now (set c.loop-i.queue c.loop-i.m (get_or c.loop-i.queue c.loop-i.i 0)) g.0.0 n (c.loop-i.i + 1) (c.loop-i.m + 1)) (sym one) (checking_first c.args.p c.args.l c.args.queue.now c.requires c.loop-i.queue c.loop-i.corner (c.args.l.count + c.loop-i.i) c.loop-i.i c.loop-i.m c.loop-i.invariant.0 more left (eqb-true c.loop-i.m 0 t.1) alive g.0.0 (subst (λ (n : ℕ). FirstIs (asked c.args.p) c.args.l.depths (box_of (get_or c.loop-i.queue c.loop-i.i 0)) n (Recorded g.0.0)) one (rw (g.1, c.unpack-b.ensures) at w.2.ensures)))))
-          (λ w.
-          subst (λ (d : Corner). Checking c.args.p c.args.l c.args.queue.now (set c.loop-i.queue c.loop-i.m (get_or c.loop-i.queue c.loop-i.i 0)) d (c.args.l.count + (c.loop-i.i + 1)) (c.loop-i.i + 1) (c.loop-i.m + 1)) (sym w.1)
-          (subst (λ (n : ℕ). Checking c.args.p c.args.l c.args.queue.now (set c.loop-i.queue c.loop-i.m (get_or c.loop-i.queue c.loop-i.i 0)) c.loop-i.corner n (c.loop-i.i + 1) (c.loop-i.m + 1)) (sym one) (checking_again c.args.p c.args.l c.args.queue.now c.requires c.loop-i.queue c.loop-i.corner (c.args.l.count + c.loop-i.i) c.loop-i.i c.loop-i.m c.loop-i.invariant.0 more left alive (some c.loop-i.m (eqb-false c.loop-i.m 0 (rw c.if-alive.true at w.0.left))))))
-          c.if-alive-m.branch,
+      (elim c.if-alive-m.branch [
+          then-alive-m+in-Recorded w ↦ let t = (and-eq-true_iff c.survives_in-alive.result (eqb c.loop-i.m 0)).0 w.if-alive-m.true in
+                    subst (λ (d : Corner). Checking c.args.p c.args.l c.args.queue.now (set c.loop-i.queue c.loop-i.m (get_or c.loop-i.queue c.loop-i.i 0)) d (c.args.l.count + (c.loop-i.i + 1)) (c.loop-i.i + 1) (c.loop-i.m + 1)) (sym w.corner-is)
+          (subst (λ (n : ℕ). Checking c.args.p c.args.l c.args.queue.now (set c.loop-i.queue c.loop-i.m (get_or c.loop-i.queue c.loop-i.i 0)) w.in-Recorded.c n (c.loop-i.i + 1) (c.loop-i.m + 1)) (sym one) (checking_first c.args.p c.args.l c.args.queue.now c.requires c.loop-i.queue c.loop-i.corner (c.args.l.count + c.loop-i.i) c.loop-i.i c.loop-i.m c.loop-i.invariant.0 more left (eqb-true c.loop-i.m 0 t.1) alive w.in-Recorded.c (subst (λ (n : ℕ). FirstIs (asked c.args.p) c.args.l.depths (box_of (get_or c.loop-i.queue c.loop-i.i 0)) n (Recorded w.in-Recorded.c)) one (rw (w.in-Recorded.is, c.unpack-b.ensures) at w.first_survivor.ensures))))
+          | else-alive-m w ↦ subst (λ (d : Corner). Checking c.args.p c.args.l c.args.queue.now (set c.loop-i.queue c.loop-i.m (get_or c.loop-i.queue c.loop-i.i 0)) d (c.args.l.count + (c.loop-i.i + 1)) (c.loop-i.i + 1) (c.loop-i.m + 1)) (sym w.corner-is)
+          (subst (λ (n : ℕ). Checking c.args.p c.args.l c.args.queue.now (set c.loop-i.queue c.loop-i.m (get_or c.loop-i.queue c.loop-i.i 0)) c.loop-i.corner n (c.loop-i.i + 1) (c.loop-i.m + 1)) (sym one) (checking_again c.args.p c.args.l c.args.queue.now c.requires c.loop-i.queue c.loop-i.corner (c.args.l.count + c.loop-i.i) c.loop-i.i c.loop-i.m c.loop-i.invariant.0 more left alive (some c.loop-i.m (eqb-false c.loop-i.m 0 (rw c.if-alive.true at w.if-alive-m.false)))))
+        ]),
       (c.loop-i.invariant.1.0, (omega (arith, c.loop-i-test.true), slab_own c.args.p c.args.l.depths _ _ c.renewed-slab.ensures)),
     )
 
@@ -130,12 +128,11 @@ loop-i-preserved c =
     let left : c.args.l.count + c.loop-i.i < c.args.p.budget = omega (arith, c.loop-i.invariant.1.0.within, c.loop-i-test.true) in
     let one : c.args.l.count + (c.loop-i.i + 1) ≡ c.args.l.count + c.loop-i.i + 1 = omega arith in
     let lost = rw c.unpack-b.ensures at (sym c.survives_in-alive.ensures ∙ c.if-alive.false) in (
-      ⊎_elim
-          (λ w. absurd (differ (sym ((and-eq-true_iff _ (eqb c.loop-i.m 0)).0 w.0.taken).0 ∙ c.if-alive.false)))
-          (λ w.
-          subst (λ (d : Corner). Checking c.args.p c.args.l c.args.queue.now (set c.loop-i.queue c.loop-i.m (get_or c.loop-i.queue c.loop-i.i 0)) d (c.args.l.count + (c.loop-i.i + 1)) (c.loop-i.i + 1) c.loop-i.m) (sym w.1)
-          (subst (λ (n : ℕ). Checking c.args.p c.args.l c.args.queue.now (set c.loop-i.queue c.loop-i.m (get_or c.loop-i.queue c.loop-i.i 0)) c.loop-i.corner n (c.loop-i.i + 1) c.loop-i.m) (sym one) (checking_lost c.args.p c.args.l c.args.queue.now c.requires c.loop-i.queue c.loop-i.corner (c.args.l.count + c.loop-i.i) c.loop-i.i c.loop-i.m c.loop-i.invariant.0 more left lost)))
-          c.if-alive-m.branch,
+      (elim c.if-alive-m.branch [
+          then-alive-m+in-Recorded w ↦ absurd (differ (sym ((and-eq-true_iff _ (eqb c.loop-i.m 0)).0 w.if-alive-m.true).0 ∙ c.if-alive.false))
+          | else-alive-m w ↦ subst (λ (d : Corner). Checking c.args.p c.args.l c.args.queue.now (set c.loop-i.queue c.loop-i.m (get_or c.loop-i.queue c.loop-i.i 0)) d (c.args.l.count + (c.loop-i.i + 1)) (c.loop-i.i + 1) c.loop-i.m) (sym w.corner-is)
+          (subst (λ (n : ℕ). Checking c.args.p c.args.l c.args.queue.now (set c.loop-i.queue c.loop-i.m (get_or c.loop-i.queue c.loop-i.i 0)) c.loop-i.corner n (c.loop-i.i + 1) c.loop-i.m) (sym one) (checking_lost c.args.p c.args.l c.args.queue.now c.requires c.loop-i.queue c.loop-i.corner (c.args.l.count + c.loop-i.i) c.loop-i.i c.loop-i.m c.loop-i.invariant.0 more left lost))
+        ]),
       (c.loop-i.invariant.1.0, (omega (arith, c.loop-i-test.true), slab_own c.args.p c.args.l.depths _ _ c.renewed-slab.ensures)),
     )
 

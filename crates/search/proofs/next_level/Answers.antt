@@ -20,19 +20,19 @@ grow-requires c =
 
 pub clear_part-requires : goal.clear_part-requires
 clear_part-requires c =
-    (omega arith, omega (arith, c.grow.auto.1.1.1.0, c.requires.fine.twice))
+    (omega arith, omega (arith, c.grow.auto.queue, c.requires.fine.twice))
 
 pub copy_down-requires : goal.copy_down-requires
 copy_down-requires c =
     let x = rw c.in-Level.is at c.grow.ensures.next in
-    (x.fits, omega (arith, x.fits, c.grow.auto.1.1.1.0, c.requires.fine.twice))
+    (x.fits, omega (arith, x.fits, c.grow.auto.queue, c.requires.fine.twice))
 
 pub returns-in-Room : goal.returns-in-Room
 returns-in-Room c =
-    splits_room c.args.p c.args.l c.args.queue.now c.requires c.grow.new.1.1.1.0 c.clear_part.new.0
-    c.grow.auto.1.1.1.0 (rw (c.in-Room.is, c.deepen-depths.ensures, c.split-split.ensures) at c.grow.ensures) c.clear_part.ensures
+    splits_room c.args.p c.args.l c.args.queue.now c.requires c.grow.new.queue c.clear_part.new.words
+    c.grow.auto.queue (rw (c.in-Room.is, c.deepen-depths.ensures, c.split-split.ensures) at c.grow.ensures) c.clear_part.ensures
 
 pub returns-in-Level : goal.returns-in-Level
 returns-in-Level c =
     rw (c.deepen-depths.ensures, c.split-split.ensures)
-    (splits_level c.args.p c.args.l c.args.queue.now c.requires c.grow.new.1.1.1.0 c.copy_down.new.0 c.grow.auto.1.1.1.0 c.in-Level.size c.larger.result (rw (c.in-Level.is, c.deepen-depths.ensures, c.split-split.ensures) at c.grow.ensures) c.copy_down.ensures (c.copy_down.auto.0 ∙ c.grow.auto.1.1.1.0) c.larger.ensures)
+    (splits_level c.args.p c.args.l c.args.queue.now c.requires c.grow.new.queue c.copy_down.new.queue c.grow.auto.queue c.in-Level.size c.larger.result (rw (c.in-Level.is, c.deepen-depths.ensures, c.split-split.ensures) at c.grow.ensures) c.copy_down.ensures (c.copy_down.auto.queue ∙ c.grow.auto.queue) c.larger.ensures)

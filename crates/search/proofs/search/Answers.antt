@@ -11,17 +11,20 @@ use Rattle.search.proofs.search.Goals as goal
 pub returns-then-number-ne0 : goal.returns-then-number-ne0
 returns-then-number-ne0 c =
     let e = search_refused c.args.r (length c.args.queue.now) c.search_refusal-number.result c.search_refusal-number.ensures c.if-number-ne0.true in
-    (e, after_refusal c.args.r (length c.args.queue.now) c.search_refusal-number.result c.args.queue.now e)
+    record { value = e; queue_after = after_refusal c.args.r (length c.args.queue.now) c.search_refusal-number.result c.args.queue.now e }
 
 pub search_accepted-requires : goal.search_accepted-requires
 search_accepted-requires c =
-    let n = ap (λ (words : ℕ). search_refusal c.args.r words) c.clear.auto.0 in
+    let n = ap (λ (words : ℕ). search_refusal c.args.r words) c.clear.auto.words in
     record {
       none = n ∙ sym c.search_refusal-number.ensures ∙ omega (arith, c.if-number-ne0.false);
-      zero = c.clear.ensures ∙ ap (λ (n : ℕ). replicate n 0) (sym c.clear.auto.0);
+      zero = c.clear.ensures ∙ ap (λ (n : ℕ). replicate n 0) (sym c.clear.auto.words);
     }
 
 pub returns : goal.returns
 returns c =
-    let f = c.search_accepted.ensures.0 ∙ ap (searched c.args.r) c.clear.auto.0 in
-    (f, c.search_accepted.ensures.1.0 ∙ c.clear.ensures ∙ sym (rw f at (after_answer c.search_accepted.result c.search_accepted.ensures.1.1 c.args.queue.now)))
+    let f = c.search_accepted.ensures.value ∙ ap (searched c.args.r) c.clear.auto.words in
+    record {
+      value = f;
+      queue_after = c.search_accepted.ensures.queue_unchanged ∙ c.clear.ensures ∙ sym (rw f at (after_answer c.search_accepted.result c.search_accepted.ensures.answers c.args.queue.now));
+    }

@@ -6,7 +6,8 @@ use Rattle.search.proofs.search_accepted.Goals as goal
 
 pub returns : goal.returns
 returns c =
-    let words = length c.args.queue.now in (
-      sym (search_clear c.args.r words c.requires.none (sym c.survives_whole.ensures ∙ c.if-survives_whole.false)),
-      (refl, tt),
-    )
+    record {
+      value = sym (search_clear c.args.r (length c.args.queue.now) c.requires.none (sym c.survives_whole.ensures ∙ c.if-survives_whole.false));
+      queue_unchanged = refl;
+      answers = tt;
+    }

@@ -15,4 +15,8 @@ search_zeroed-requires c =
 
 pub returns : goal.returns
 returns c =
-    (c.search_zeroed.ensures.0 ∙ ap run c.prepare-p.ensures.asks ∙ sym (search_run c.args.r (length c.args.queue.now) _ refl c.requires.none), c.search_zeroed.ensures.1)
+    record {
+      value = c.search_zeroed.ensures.value ∙ ap run c.prepare-p.ensures.asks ∙ sym (search_run c.args.r (length c.args.queue.now) _ refl c.requires.none);
+      queue_unchanged = c.search_zeroed.ensures.queue_unchanged;
+      answers = c.search_zeroed.ensures.answers;
+    }

@@ -18,23 +18,27 @@ one_level-requires c =
 pub clear_used-requires : goal.clear_used-requires
 clear_used-requires c =
     let x = rw c.in-Ends.is at c.one_level.ensures.after in
-    (c.loop-a.invariant.fine.used, omega (arith, c.one_level.auto.1.0, c.loop-a.invariant.fine.twice), x.1)
+    (c.loop-a.invariant.fine.used, omega (arith, c.one_level.auto.queue, c.loop-a.invariant.fine.twice), x.1)
 
 pub shape_of-queue-in-Ends : goal.shape_of-queue-in-Ends
 shape_of-queue-in-Ends c =
-    c.clear_used.auto.0 ∙ c.one_level.auto.1.0 ∙ c.loop-a.invariant.len
+    c.clear_used.auto.queue ∙ c.one_level.auto.queue ∙ c.loop-a.invariant.len
 
 pub returns-in-Ends : goal.returns-in-Ends
 returns-in-Ends c =
     let x = rw c.in-Ends.is at c.one_level.ensures in
-    (running_ends c.args.p (length c.args.queue.now) c.loop-a.queue c.loop-a.l c.loop-a.invariant c.one_level.new.1.0 c.in-Ends.a x, (c.clear_used.ensures ∙ ap (λ (n : ℕ). replicate n 0) (c.one_level.auto.1.0 ∙ c.loop-a.invariant.len) ∙ sym c.requires.zero, x.after.0))
+    record {
+      value = running_ends c.args.p (length c.args.queue.now) c.loop-a.queue c.loop-a.l c.loop-a.invariant c.one_level.new.queue c.in-Ends.a x;
+      queue_unchanged = c.clear_used.ensures ∙ ap (λ (n : ℕ). replicate n 0) (c.one_level.auto.queue ∙ c.loop-a.invariant.len) ∙ sym c.requires.zero;
+      answers = x.after.0;
+    }
 
 pub loop-a-smaller : goal.loop-a-smaller
 loop-a-smaller c =
-    running_less c.args.p (length c.args.queue.now) c.loop-a.queue c.loop-a.l c.loop-a.invariant c.one_level.new.1.0 c.in-Goes.next
+    running_less c.args.p (length c.args.queue.now) c.loop-a.queue c.loop-a.l c.loop-a.invariant c.one_level.new.queue c.in-Goes.next
     (rw c.in-Goes.is at c.one_level.ensures)
 
 pub loop-a-preserved : goal.loop-a-preserved
 loop-a-preserved c =
-    running_goes c.args.p (length c.args.queue.now) c.loop-a.queue c.loop-a.l c.loop-a.invariant c.one_level.new.1.0 c.in-Goes.next
-    (rw c.in-Goes.is at c.one_level.ensures) (c.one_level.auto.1.0 ∙ c.loop-a.invariant.len)
+    running_goes c.args.p (length c.args.queue.now) c.loop-a.queue c.loop-a.l c.loop-a.invariant c.one_level.new.queue c.in-Goes.next
+    (rw c.in-Goes.is at c.one_level.ensures) (c.one_level.auto.queue ∙ c.loop-a.invariant.len)

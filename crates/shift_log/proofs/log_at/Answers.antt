@@ -5,4 +5,4 @@ use Rattle.shift_log.proofs.log_at.Goals as goal
 
 pub returns : goal.returns
 returns c =
-    answered bytes_of c.search_at-answer.ensures.0 c.search_at-answer.ensures.1 c.numbers-n.ensures c.id_at.ensures c.encode.ensures c.is_answered.ensures c.requires.zero
+    answered bytes_of c.search_at-answer.ensures.value c.search_at-answer.ensures.queue_after c.numbers-n.ensures c.id_at.ensures c.encode.ensures c.is_answered.ensures c.requires.zero

@@ -41,4 +41,4 @@ returns-in-Refused c =
 
 pub returns-else-out-count : goal.returns-else-out-count
 returns-else-out-count c =
-    logs c.args.file.now c.args.queue.now c.args.out.now (holds c.before.before.before.before.before.before.before.before.before.before.before.before.before.before) (omega arith) c.answer_form-form.ensures c.log_records.ensures.0 c.encode_trailer.ensures c.log_records.ensures.1
+    logs c.args.file.now c.args.queue.now c.args.out.now (holds c.before.before.before.before.before.before.before.before.before.before.before.before.before.before) (omega arith) c.answer_form-form.ensures c.log_records.ensures.out_after c.encode_trailer.ensures c.log_records.ensures.queue_after

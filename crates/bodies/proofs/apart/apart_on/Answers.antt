@@ -7,11 +7,11 @@ use borrow.Author.Rules.{rules}
 use Rattle.bodies.proofs.apart.apart_on.Goals as goal
 
 pub over_cube-requires : goal.over_cube-requires
-over_cube-requires c = c.triangle_at.ensures.1
+over_cube-requires c = c.triangle_at.ensures.wide
 
 pub are_apart-requires : goal.are_apart-requires
 are_apart-requires c =
-    (c.requires.0, subst (SmallSpan cube_most) (sym c.over_cube.ensures) (cube_within c.triangle_at.ensures.1))
+    (c.requires.0, subst (SmallSpan cube_most) (sym c.over_cube.ensures) (cube_within c.triangle_at.ensures.wide))
 
 pub returns : goal.returns
-returns c = λ e. subst (λ (q : Span). Further c.args.p q c.args.d) (c.over_cube.ensures ∙ ap cube_of c.triangle_at.ensures.0) (c.are_apart.ensures e)
+returns c = λ e. subst (λ (q : Span). Further c.args.p q c.args.d) (c.over_cube.ensures ∙ ap cube_of c.triangle_at.ensures.value) (c.are_apart.ensures e)

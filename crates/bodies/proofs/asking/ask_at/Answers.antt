@@ -25,7 +25,7 @@ returns c =
     let m : c.args.k - 6 < 9 = omega (arith, c.if-k-lt6.false, c.requires) in
     let e =
     c.edges.ensures
-    ∙ ap (λ (n : ℕ). edges ((c.args.k - 6) / 3) n (3 + (c.args.k - 6) % 3) (3 + c.after-2.result)) c.after.ensures.0
-    ∙ ap (λ (n : ℕ). edges ((c.args.k - 6) / 3) (after ((c.args.k - 6) / 3)) (3 + (c.args.k - 6) % 3) (3 + n)) c.after-2.ensures.0
+    ∙ ap (λ (n : ℕ). edges ((c.args.k - 6) / 3) n (3 + (c.args.k - 6) % 3) (3 + c.after-2.result)) c.after.ensures.value
+    ∙ ap (λ (n : ℕ). edges ((c.args.k - 6) / 3) (after ((c.args.k - 6) / 3)) (3 + (c.args.k - 6) % 3) (3 + n)) c.after-2.ensures.value
     ∙ subst (λ (n : ℕ). edges ((c.args.k - 6) / 3) (after ((c.args.k - 6) / 3)) (3 + (c.args.k - 6) % 3) (3 + after ((c.args.k - 6) % 3)) ≡ ask_at n) at (edges_at (c.args.k - 6) m) in
     (e, subst Corners (sym e) (corners_at c.args.k))

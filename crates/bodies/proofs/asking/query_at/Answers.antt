@@ -3,4 +3,4 @@ use mathlib.Core.Path.{sym}
 use Rattle.bodies.proofs.asking.query_at.Goals as goal
 
 pub returns : goal.returns
-returns c = rw (sym c.ask_at-ask.ensures.0) c.query_of.ensures
+returns c = rw (sym c.ask_at-ask.ensures.value) c.query_of.ensures

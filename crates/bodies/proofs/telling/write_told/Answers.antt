@@ -12,7 +12,7 @@ use Rattle.bodies.proofs.telling.write_told.Goals as goal
 pub returns-in-Clear : goal.returns-in-Clear
 unfolding body_told
 returns-in-Clear c =
-    one_more c.args.out.now c.write_four.new.0 c.write_four-in-Clear.new.0 0 4
+    one_more c.args.out.now c.write_four.new.out c.write_four-in-Clear.new.out 0 4
     (2 ∷ 0 ∷ 0 ∷ 0 ∷ [])
     (0 ∷ 0 ∷ c.low.result ∷ c.high.result ∷ [])
     c.write_four.ensures
@@ -26,7 +26,7 @@ returns-in-Clear c =
 pub returns-in-Least : goal.returns-in-Least
 unfolding body_told
 returns-in-Least c =
-    one_more c.args.out.now c.write_four-in-Least.new.0 c.write_four-in-Least-2.new.0 0 4
+    one_more c.args.out.now c.write_four-in-Least.new.out c.write_four-in-Least-2.new.out 0 4
     (c.in-Least.word ∷ c.in-Least.t ∷ c.in-Least.a ∷ c.in-Least.b ∷ [])
     (c.in-Least.query ∷ c.in-Least.excess ∷ c.low-in-Least.result ∷ c.high-in-Least.result ∷ [])
     c.write_four-in-Least.ensures

@@ -4,15 +4,15 @@ use borrow.Author.Rules.{rules}
 use Rattle.bounds.proofs.reach.reach_of.Goals as goal
 
 pub over_cube-x-requires : goal.over_cube-x-requires
-over_cube-x-requires c = c.triangle_at.ensures.1
+over_cube-x-requires c = c.triangle_at.ensures.wide
 
 pub over_cube-y-requires : goal.over_cube-y-requires
-over_cube-y-requires c = c.triangle_at-2.ensures.1
+over_cube-y-requires c = c.triangle_at-2.ensures.wide
 
 pub over_cube-z-requires : goal.over_cube-z-requires
-over_cube-z-requires c = c.triangle_at-3.ensures.1
+over_cube-z-requires c = c.triangle_at-3.ensures.wide
 
 pub returns : goal.returns
 returns c =
-    reach_is (rw c.triangle_at.ensures.0 at c.over_cube-x.ensures) (rw c.triangle_at-2.ensures.0 at c.over_cube-y.ensures) (rw c.triangle_at-3.ensures.0 at c.over_cube-z.ensures)
-    (record { x = rw c.over_cube-x.ensures (cube_within c.triangle_at.ensures.1); y = rw c.over_cube-y.ensures (cube_within c.triangle_at-2.ensures.1); z = rw c.over_cube-z.ensures (cube_within c.triangle_at-3.ensures.1) })
+    reach_is (rw c.triangle_at.ensures.value at c.over_cube-x.ensures) (rw c.triangle_at-2.ensures.value at c.over_cube-y.ensures) (rw c.triangle_at-3.ensures.value at c.over_cube-z.ensures)
+    (record { x = rw c.over_cube-x.ensures (cube_within c.triangle_at.ensures.wide); y = rw c.over_cube-y.ensures (cube_within c.triangle_at-2.ensures.wide); z = rw c.over_cube-z.ensures (cube_within c.triangle_at-3.ensures.wide) })

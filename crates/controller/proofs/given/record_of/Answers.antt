@@ -9,7 +9,7 @@ use Rattle.controller.proofs.given.record_of.Goals as goal
 pub returns : goal.returns
 returns c =
     (
-      rw c.first_24-points.ensures.0,
+      rw c.first_24-points.ensures.value,
       record {
         kind = omega (arith, c.ranges.kind);
         flags = omega (arith, c.ranges.flags);
@@ -22,8 +22,8 @@ returns c =
         tolerance = omega (arith, c.ranges.tolerance);
         budget = omega (arith, c.ranges.budget);
         cap = omega (arith, c.ranges.cap);
-        count = ap length c.first_24-points.ensures.0 ∙ length-take-le 24 c.args.numbers.now c.requires;
-        points = c.first_24-points.ensures.1;
+        count = ap length c.first_24-points.ensures.value ∙ length-take-le 24 c.args.numbers.now c.requires;
+        points = c.first_24-points.ensures.each;
         narrow = λ e. let z : ◌≡◌ {A = ℕ} 0 1 = cc in absurd (omega arith);
       },
     )

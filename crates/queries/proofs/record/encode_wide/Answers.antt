@@ -20,11 +20,11 @@ returns c =
     let b5 = word_bytes c.args.r.tolerance in
     let b6 = word_bytes c.args.r.budget in
     let b7 = word_bytes c.args.r.cap in
-    let e1 = one_more c.args.s.now c.write4.new.0 c.write_u32.new.0 c.args.at (c.args.at + 4) b0 b1 c.write4.ensures c.write_u32.ensures refl (omega (arith, room)) in
-    let e2 = one_more c.args.s.now c.write_u32.new.0 c.write_u32-2.new.0 c.args.at (c.args.at + 8) (b0 ++ b1) b2 e1 c.write_u32-2.ensures refl (omega (arith, room)) in
-    let e3 = one_more c.args.s.now c.write_u32-2.new.0 c.write_u32-3.new.0 c.args.at (c.args.at + 12) (b0 ++ b1 ++ b2) b3 e2 c.write_u32-3.ensures refl (omega (arith, room)) in
-    let e4 = one_more c.args.s.now c.write_u32-3.new.0 c.write_u32-4.new.0 c.args.at (c.args.at + 16) (b0 ++ b1 ++ b2 ++ b3) b4 e3 c.write_u32-4.ensures refl (omega (arith, room)) in
-    let e5 = one_more c.args.s.now c.write_u32-4.new.0 c.write_u32-5.new.0 c.args.at (c.args.at + 20) (b0 ++ b1 ++ b2 ++ b3 ++ b4) b5 e4 c.write_u32-5.ensures refl (omega (arith, room)) in
-    let e6 = one_more c.args.s.now c.write_u32-5.new.0 c.write_u32-6.new.0 c.args.at (c.args.at + 24) (b0 ++ b1 ++ b2 ++ b3 ++ b4 ++ b5) b6 e5 c.write_u32-6.ensures refl (omega (arith, room)) in
-    let e7 = one_more c.args.s.now c.write_u32-6.new.0 c.write_u32-7.new.0 c.args.at (c.args.at + 28) (b0 ++ b1 ++ b2 ++ b3 ++ b4 ++ b5 ++ b6) b7 e6 c.write_u32-7.ensures refl (omega (arith, room)) in
-    one_more c.args.s.now c.write_u32-7.new.0 c.write_points.new.0 c.args.at (c.args.at + 32) (b0 ++ b1 ++ b2 ++ b3 ++ b4 ++ b5 ++ b6 ++ b7) (coordinate_bytes c.args.r.points) e7 c.write_points.ensures refl (omega (arith, room))
+    let e1 = one_more c.args.s.now c.write4.new.s c.write_u32.new.s c.args.at (c.args.at + 4) b0 b1 c.write4.ensures c.write_u32.ensures refl (omega (arith, room)) in
+    let e2 = one_more c.args.s.now c.write_u32.new.s c.write_u32-2.new.s c.args.at (c.args.at + 8) (b0 ++ b1) b2 e1 c.write_u32-2.ensures refl (omega (arith, room)) in
+    let e3 = one_more c.args.s.now c.write_u32-2.new.s c.write_u32-3.new.s c.args.at (c.args.at + 12) (b0 ++ b1 ++ b2) b3 e2 c.write_u32-3.ensures refl (omega (arith, room)) in
+    let e4 = one_more c.args.s.now c.write_u32-3.new.s c.write_u32-4.new.s c.args.at (c.args.at + 16) (b0 ++ b1 ++ b2 ++ b3) b4 e3 c.write_u32-4.ensures refl (omega (arith, room)) in
+    let e5 = one_more c.args.s.now c.write_u32-4.new.s c.write_u32-5.new.s c.args.at (c.args.at + 20) (b0 ++ b1 ++ b2 ++ b3 ++ b4) b5 e4 c.write_u32-5.ensures refl (omega (arith, room)) in
+    let e6 = one_more c.args.s.now c.write_u32-5.new.s c.write_u32-6.new.s c.args.at (c.args.at + 24) (b0 ++ b1 ++ b2 ++ b3 ++ b4 ++ b5) b6 e5 c.write_u32-6.ensures refl (omega (arith, room)) in
+    let e7 = one_more c.args.s.now c.write_u32-6.new.s c.write_u32-7.new.s c.args.at (c.args.at + 28) (b0 ++ b1 ++ b2 ++ b3 ++ b4 ++ b5 ++ b6) b7 e6 c.write_u32-7.ensures refl (omega (arith, room)) in
+    one_more c.args.s.now c.write_u32-7.new.s c.write_points.new.s c.args.at (c.args.at + 32) (b0 ++ b1 ++ b2 ++ b3 ++ b4 ++ b5 ++ b6 ++ b7) (coordinate_bytes c.args.r.points) e7 c.write_points.ensures refl (omega (arith, room))

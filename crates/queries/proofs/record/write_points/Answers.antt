@@ -23,7 +23,7 @@ pub loop-i-preserved : goal.loop-i-preserved
 loop-i-preserved c =
     (
       omega arith,
-      write_more c.args.s.now c.args.at c.args.t3 c.loop-i.i (omega arith) c.loop-i.s c.write_i32.new.0
+      write_more c.args.s.now c.args.at c.args.t3 c.loop-i.i (omega arith) c.loop-i.s c.write_i32.new.s
           (to_z w32 (of_z w32 (get_or c.args.t3 c.loop-i.i (pos 0)))) (omega arith) c.loop-i.invariant.1
           (to_z-of_z (sfits_of c.write_i32-arg-in-loop-i-1.given)) c.write_i32.ensures,
     )

@@ -20,12 +20,12 @@ returns-then-number-ne0 c =
 pub search_levels-requires : goal.search_levels-requires
 search_levels-requires c =
     record {
-      none = ap (λ (words : ℕ). search_refusal c.decode-r.result words) c.clear_unless.auto.0 ∙ sym c.search_refusal-number.ensures ∙ omega (arith, c.if-number-ne0.false);
-      zero = c.clear_unless.ensures ∙ ap (λ (n : ℕ). replicate n 0) (sym c.clear_unless.auto.0);
+      none = ap (λ (words : ℕ). search_refusal c.decode-r.result words) c.clear_unless.auto.queue ∙ sym c.search_refusal-number.ensures ∙ omega (arith, c.if-number-ne0.false);
+      zero = c.clear_unless.ensures ∙ ap (λ (n : ℕ). replicate n 0) (sym c.clear_unless.auto.queue);
     }
 
 pub returns : goal.returns
 returns c =
     let r = record_at c.args.edition c.args.s.now c.args.at in
-    let f = c.search_levels.ensures.0 ∙ ap (λ (x : Record). searched x (length c.clear_unless.new.0)) c.decode-r.ensures ∙ ap (searched r) c.clear_unless.auto.0 in
-    (f, c.search_levels.ensures.1.0 ∙ c.clear_unless.ensures ∙ sym (rw f at (after_answer c.search_levels.result c.search_levels.ensures.1.1 c.args.queue.now)))
+    let f = c.search_levels.ensures.value ∙ ap (λ (x : Record). searched x (length c.clear_unless.new.queue)) c.decode-r.ensures ∙ ap (searched r) c.clear_unless.auto.queue in
+    (f, c.search_levels.ensures.queue_unchanged ∙ c.clear_unless.ensures ∙ sym (rw f at (after_answer c.search_levels.result c.search_levels.ensures.answers c.args.queue.now)))
