@@ -22,15 +22,6 @@ row_of : (w : Terms) (a0 a1 b0 b1 : List ℤ) (i n words : ℕ) {reach : Reach} 
     → None words (pair_queries w (positions a0 a1) (positions b0 b1) i x) → Counts words 15 (pair_queries w (positions a0 a1) (positions b0 b1) i x)
 row_of w a0 a1 b0 b1 i n words is x l d none = pair_counts w a0 a1 b0 b1 i x words (by_reach is d) none
 
--- what was heard until then: the first that are apart were passed over
-begun : (c : goal.After-counted-sofar invariant-loop decreases-loop)
-    → Going (15 * c.next_near-j.result) (row_queries c.args.w (positions c.args.a0.now c.args.a1.now) (positions c.args.b0.now c.args.b1.now) c.args.i c.args.n)
-    (each_left c.args.n (λ c.next_near-j.result. pair_queries c.args.w (positions c.args.a0.now c.args.a1.now) (positions c.args.b0.now c.args.b1.now) c.args.i c.next_near-j.result) c.next_near-j.result) c.args.queue.now c.args.queue.now c.args.first c.counted-sofar.result
-begun c =
-    let c.args = c.args in
-    let e : 15 * c.next_near-j.result ≡ 15 * (c.next_near-j.result - 0) = omega arith in
-    passed_over c.args.n 15 _ _ _ _ _ (row_of c.args.w c.args.a0.now c.args.a1.now c.args.b0.now c.args.b1.now c.args.i c.args.n _ c.reach_of-reach.ensures) c.requires.to_hear.goes c.next_near-j.ensures e c.counted-sofar.ensures _ (omega arith) (going_none 3840 _ _ _ _ (each_start _ _) c.requires.to_hear)
-
 pub reach_of-reach-requires : goal.reach_of-reach-requires
 reach_of-reach-requires c = (c.requires.start_of_a, c.requires.end_of_a)
 
@@ -46,18 +37,26 @@ counted-sofar-requires c = omega (arith, c.next_near-j.ensures.most, c.requires.
 
 pub loop-j-init : goal.loop-j-init
 loop-j-init c =
-    let g = begun c in
+    let begun : Going (15 * c.next_near-j.result) (row_queries c.args.w (positions c.args.a0.now c.args.a1.now) (positions c.args.b0.now c.args.b1.now) c.args.i c.args.n)
+    (each_left c.args.n (λ c.next_near-j.result. pair_queries c.args.w (positions c.args.a0.now c.args.a1.now) (positions c.args.b0.now c.args.b1.now) c.args.i c.next_near-j.result) c.next_near-j.result) c.args.queue.now c.args.queue.now c.args.first c.counted-sofar.result =
+        let e : 15 * c.next_near-j.result ≡ 15 * (c.next_near-j.result - 0) = omega arith in
+    passed_over c.args.n 15 _ _ _ _ _ (row_of c.args.w c.args.a0.now c.args.a1.now c.args.b0.now c.args.b1.now c.args.i c.args.n _ c.reach_of-reach.ensures) c.requires.to_hear.goes c.next_near-j.ensures e c.counted-sofar.ensures _ (omega arith) (going_none 3840 _ _ _ _ (each_start _ _) c.requires.to_hear) in
+    let g = begun in
     let e : 0 ≡ 15 * (c.next_near-j.result - c.next_near-j.result) = omega arith in
     (omega arith, (c.next_near-j.ensures.most, (record { same = refl; none = g.none; kept = refl; grows = omega arith; step = g.step }, still_goes (15 * c.next_near-j.result) c.args.first c.counted-sofar.result c.requires.to_hear.goes c.counted-sofar.ensures)))
 
 pub hear_pair-more-requires : goal.hear_pair-more-requires
 hear_pair-more-requires c =
+    let begun : Going (15 * c.next_near-j.result) (row_queries c.args.w (positions c.args.a0.now c.args.a1.now) (positions c.args.b0.now c.args.b1.now) c.args.i c.args.n)
+    (each_left c.args.n (λ c.next_near-j.result. pair_queries c.args.w (positions c.args.a0.now c.args.a1.now) (positions c.args.b0.now c.args.b1.now) c.args.i c.next_near-j.result) c.next_near-j.result) c.args.queue.now c.args.queue.now c.args.first c.counted-sofar.result =
+        let e : 15 * c.next_near-j.result ≡ 15 * (c.next_near-j.result - 0) = omega arith in
+    passed_over c.args.n 15 _ _ _ _ _ (row_of c.args.w c.args.a0.now c.args.a1.now c.args.b0.now c.args.b1.now c.args.i c.args.n _ c.reach_of-reach.ensures) c.requires.to_hear.goes c.next_near-j.ensures e c.counted-sofar.ensures _ (omega arith) (going_none 3840 _ _ _ _ (each_start _ _) c.requires.to_hear) in
     record {
       start = record { of_a_lem = c.requires.start_of_a; of_b_lem = omega (arith, c.requires.start_of_b) };
       end = record { of_a_lem = c.requires.end_of_a; of_b_lem = omega (arith, c.requires.end_of_b) };
       first = c.requires.first;
       second = omega (arith, c.requires.count);
-      to_hear = going_asks _ 15 _ _ _ _ _ _ _ _ (going_then (begun c.before.before.before) c.loop-j.invariant.1.1.0) (each_next _ _ c.loop-j.j (omega arith)) c.loop-j.invariant.1.1.1 3840 (omega (arith, c.requires.count, c.loop-j.invariant.0)) c.requires.to_hear.zero c.requires.to_hear.room;
+      to_hear = going_asks _ 15 _ _ _ _ _ _ _ _ (going_then (begun) c.loop-j.invariant.1.1.0) (each_next _ _ c.loop-j.j (omega arith)) c.loop-j.invariant.1.1.1 3840 (omega (arith, c.requires.count, c.loop-j.invariant.0)) c.requires.to_hear.zero c.requires.to_hear.room;
     }
 
 pub shape_of-queue-then-is_over : goal.shape_of-queue-then-is_over
@@ -66,7 +65,11 @@ shape_of-queue-then-is_over c = ap length (c.hear_pair-more.ensures.kept ∙ c.l
 -- a time of 0 ends it
 pub returns-then-is_over : goal.returns-then-is_over
 returns-then-is_over c =
-    going_over _ 3840 _ _ _ _ _ _ (going_then (begun c.before.before.before.before.before.before.before.before) (going_more (15 * (c.loop-j.j - c.next_near-j.result)) 15 _ _ _ _ _ _ _ _ c.loop-j.invariant.1.1.0 (each_next _ _ c.loop-j.j (omega arith)) (15 * (c.loop-j.j - c.next_near-j.result) + 15) (omega arith) _ _ c.hear_pair-more.ensures))
+    let begun : Going (15 * c.next_near-j.result) (row_queries c.args.w (positions c.args.a0.now c.args.a1.now) (positions c.args.b0.now c.args.b1.now) c.args.i c.args.n)
+    (each_left c.args.n (λ c.next_near-j.result. pair_queries c.args.w (positions c.args.a0.now c.args.a1.now) (positions c.args.b0.now c.args.b1.now) c.args.i c.next_near-j.result) c.next_near-j.result) c.args.queue.now c.args.queue.now c.args.first c.counted-sofar.result =
+        let e : 15 * c.next_near-j.result ≡ 15 * (c.next_near-j.result - 0) = omega arith in
+    passed_over c.args.n 15 _ _ _ _ _ (row_of c.args.w c.args.a0.now c.args.a1.now c.args.b0.now c.args.b1.now c.args.i c.args.n _ c.reach_of-reach.ensures) c.requires.to_hear.goes c.next_near-j.ensures e c.counted-sofar.ensures _ (omega arith) (going_none 3840 _ _ _ _ (each_start _ _) c.requires.to_hear) in
+    going_over _ 3840 _ _ _ _ _ _ (going_then (begun) (going_more (15 * (c.loop-j.j - c.next_near-j.result)) 15 _ _ _ _ _ _ _ _ c.loop-j.invariant.1.1.0 (each_next _ _ c.loop-j.j (omega arith)) (15 * (c.loop-j.j - c.next_near-j.result) + 15) (omega arith) _ _ c.hear_pair-more.ensures))
     (sym c.is_over.ensures ∙ c.if-is_over.true) (omega (arith, c.requires.count, c.loop-j.invariant.0))
 
 pub overflow_add-j : goal.overflow_add-j
@@ -88,7 +91,11 @@ overflow_mul-near c =
 
 pub counted-sofar-requires-in-loop-j : goal.counted-sofar-requires-in-loop-j
 counted-sofar-requires-in-loop-j c =
-    let g = going_then (begun c.before.before.before.before.before.before.before.before.before) c.loop-j.invariant.1.1.0 in
+    let begun : Going (15 * c.next_near-j.result) (row_queries c.args.w (positions c.args.a0.now c.args.a1.now) (positions c.args.b0.now c.args.b1.now) c.args.i c.args.n)
+    (each_left c.args.n (λ c.next_near-j.result. pair_queries c.args.w (positions c.args.a0.now c.args.a1.now) (positions c.args.b0.now c.args.b1.now) c.args.i c.next_near-j.result) c.next_near-j.result) c.args.queue.now c.args.queue.now c.args.first c.counted-sofar.result =
+        let e : 15 * c.next_near-j.result ≡ 15 * (c.next_near-j.result - 0) = omega arith in
+    passed_over c.args.n 15 _ _ _ _ _ (row_of c.args.w c.args.a0.now c.args.a1.now c.args.b0.now c.args.b1.now c.args.i c.args.n _ c.reach_of-reach.ensures) c.requires.to_hear.goes c.next_near-j.ensures e c.counted-sofar.ensures _ (omega arith) (going_none 3840 _ _ _ _ (each_start _ _) c.requires.to_hear) in
+    let g = going_then (begun) c.loop-j.invariant.1.1.0 in
     omega (arith, c.next_near-near.ensures.most, c.next_near-near.ensures.later, c.requires.count, c.requires.to_hear.room, g.grows, c.hear_pair-more.ensures.grows, c.loop-j.invariant.0)
 
 pub loop-j-smaller : goal.loop-j-smaller
@@ -114,4 +121,8 @@ shape_of-queue c = ap length c.loop-j.invariant.1.1.0.kept
 
 pub returns : goal.returns
 returns c =
-    going_all _ 3840 _ _ _ _ _ _ (going_then (begun c.before.before) c.loop-j.invariant.1.1.0) (each_end _ _ c.loop-j.j (omega arith)) (omega (arith, c.requires.count, c.loop-j.invariant.0))
+    let begun : Going (15 * c.next_near-j.result) (row_queries c.args.w (positions c.args.a0.now c.args.a1.now) (positions c.args.b0.now c.args.b1.now) c.args.i c.args.n)
+    (each_left c.args.n (λ c.next_near-j.result. pair_queries c.args.w (positions c.args.a0.now c.args.a1.now) (positions c.args.b0.now c.args.b1.now) c.args.i c.next_near-j.result) c.next_near-j.result) c.args.queue.now c.args.queue.now c.args.first c.counted-sofar.result =
+        let e : 15 * c.next_near-j.result ≡ 15 * (c.next_near-j.result - 0) = omega arith in
+    passed_over c.args.n 15 _ _ _ _ _ (row_of c.args.w c.args.a0.now c.args.a1.now c.args.b0.now c.args.b1.now c.args.i c.args.n _ c.reach_of-reach.ensures) c.requires.to_hear.goes c.next_near-j.ensures e c.counted-sofar.ensures _ (omega arith) (going_none 3840 _ _ _ _ (each_start _ _) c.requires.to_hear) in
+    going_all _ 3840 _ _ _ _ _ _ (going_then (begun) c.loop-j.invariant.1.1.0) (each_end _ _ c.loop-j.j (omega arith)) (omega (arith, c.requires.count, c.loop-j.invariant.0))

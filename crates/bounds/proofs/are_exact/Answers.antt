@@ -29,14 +29,14 @@ bound_of-requires c =
 
 pub returns-then-not-is_exact : goal.returns-then-not-is_exact
 returns-then-not-is_exact c =
-    sym (same_not (body c.args.count c.args.start.now c.args.end.now) c.args.bounds.now c.loop-block.block (blocks c.args.count) (block_before c.args.count c.loop-block.block (omega arith)) (λ e. spans_no c.args.bounds.now (6 * c.loop-block.block) _ (sym c.is_exact.ensures ∙ not-true _ c.if-not-is_exact.true) (e ∙ sym c.bound_of.ensures)))
+    sym (same_not (body c.args.count c.args.start.now c.args.end.now) c.args.bounds.now c.loop-block.block (blocks c.args.count) (block_before c.args.count c.loop-block.block (omega arith)) (λ e. spans_no c.args.bounds.now (6 * c.loop-block.block) _ (sym c.is_exact.ensures ∙ c.if-not-is_exact.true) (e ∙ sym c.bound_of.ensures)))
 
 pub loop-block-preserved : goal.loop-block-preserved
 loop-block-preserved c =
     let before = block_before c.args.count c.loop-block.block (omega arith) in (
       omega (arith, before),
       same_more (body c.args.count c.args.start.now c.args.end.now) c.args.bounds.now c.loop-block.block (omega (arith, before, c.blocks-2.ensures, c.if-bounds-blocks.false)) c.loop-block.invariant.1
-          (spans_yes c.args.bounds.now (6 * c.loop-block.block) _ (sym c.is_exact.ensures ∙ not-false _ c.if-not-is_exact.false) ∙ c.bound_of.ensures),
+          (spans_yes c.args.bounds.now (6 * c.loop-block.block) _ (sym c.is_exact.ensures ∙ c.if-not-is_exact.false) ∙ c.bound_of.ensures),
     )
 
 pub returns : goal.returns

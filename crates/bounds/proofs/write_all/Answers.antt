@@ -12,13 +12,6 @@ use Rattle.bounds.specs.Reach.{body}
 use Rattle.bounds.specs.Lists.{length_bounds, block_before, block_last}
 use Rattle.bounds.proofs.write_all.Goals as goal
 
--- the list stays as long as it was
-long : (l : goal.At-loop-block invariant-loop decreases-loop) → length l.loop.bounds ≡ length l.before.args.bounds.now
-long l =
-    let a = l.before.args in
-    let len = length_bounds (body a.count a.start.now a.end.now) l.loop.block in
-    ap length l.loop.invariant.1 ∙ length_put a.bounds.now 0 (bounds_to (body a.count a.start.now a.end.now) l.loop.block) (omega (arith, len, l.loop.invariant.0, l.before.requires.room))
-
 pub loop-block-init : goal.loop-block-init
 unfolding bounds_to
 loop-block-init c = (omega arith, sym (put_nil c.args.bounds.now 0))
@@ -29,8 +22,11 @@ bound_of-requires c =
 
 pub write_bound-requires : goal.write_bound-requires
 write_bound-requires c =
+    let long : length c.loop-block.bounds ≡ length c.args.bounds.now =
+        let len = length_bounds (body c.args.count c.args.start.now c.args.end.now) c.loop-block.block in
+    ap length c.loop-block.invariant.1 ∙ length_put c.args.bounds.now 0 (bounds_to (body c.args.count c.args.start.now c.args.end.now) c.loop-block.block) (omega (arith, len, c.loop-block.invariant.0, c.requires.room)) in
     let before = block_before c.args.count c.loop-block.block (omega arith) in
-    omega (arith, before, c.requires.room, long c.before.before.before)
+    omega (arith, before, c.requires.room, long)
 
 pub loop-block-preserved : goal.loop-block-preserved
 unfolding bounds_to
@@ -47,7 +43,11 @@ loop-block-preserved c =
     )
 
 pub shape_of-bounds : goal.shape_of-bounds
-shape_of-bounds c = long c.before
+shape_of-bounds c =
+    let long : length c.loop-block.bounds ≡ length c.args.bounds.now =
+        let len = length_bounds (body c.args.count c.args.start.now c.args.end.now) c.loop-block.block in
+    ap length c.loop-block.invariant.1 ∙ length_put c.args.bounds.now 0 (bounds_to (body c.args.count c.args.start.now c.args.end.now) c.loop-block.block) (omega (arith, len, c.loop-block.invariant.0, c.requires.room)) in
+    long
 
 pub returns : goal.returns
 returns c =

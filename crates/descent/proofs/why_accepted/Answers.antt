@@ -20,8 +20,11 @@ search_levels-a-requires c =
 pub returns-then-not-is_before : goal.returns-then-not-is_before
 returns-then-not-is_before c =
     let found = c.search_levels-a.ensures.value ∙ ap (searched c.args.r) c.clear.auto.words in
-    let late = ap (λ (a : Answer). is_before a c.args.at.t) (sym found) ∙ sym c.is_before.ensures ∙ not-true _ c.if-not-is_before.true in
-    (refused_24 c.args.r (length c.args.queue.now) c.args.at c.requires late, c.search_levels-a.ensures.queue_unchanged ∙ c.clear.ensures)
+    let late = ap (λ (a : Answer). is_before a c.args.at.t) (sym found) ∙ sym c.is_before.ensures ∙ c.if-not-is_before.true in
+    record {
+      value = refused_24 c.args.r (length c.args.queue.now) c.args.at c.requires late;
+      queue_after = c.search_levels-a.ensures.queue_unchanged ∙ c.clear.ensures;
+    }
 
 pub from_whole-requires : goal.from_whole-requires
 from_whole-requires c =
@@ -30,6 +33,9 @@ from_whole-requires c =
 pub returns : goal.returns
 returns c =
     let found = c.search_levels-a.ensures.value ∙ ap (searched c.args.r) c.clear.auto.words in
-    let soon = ap (λ (a : Answer). is_before a c.args.at.t) (sym found) ∙ sym c.is_before.ensures ∙ not-false _ c.if-not-is_before.false in
+    let soon = ap (λ (a : Answer). is_before a c.args.at.t) (sym found) ∙ sym c.is_before.ensures ∙ c.if-not-is_before.false in
     let words = c.search_levels-a.auto.queue ∙ c.clear.auto.words in
-    (c.from_whole.ensures ∙ ap (λ (n : ℕ). from_whole c.args.r n c.args.at) words ∙ its_box c.args.r (length c.args.queue.now) c.args.at c.requires soon, c.search_levels-a.ensures.queue_unchanged ∙ c.clear.ensures)
+    record {
+      value = c.from_whole.ensures ∙ ap (λ (n : ℕ). from_whole c.args.r n c.args.at) words ∙ its_box c.args.r (length c.args.queue.now) c.args.at c.requires soon;
+      queue_after = c.search_levels-a.ensures.queue_unchanged ∙ c.clear.ensures;
+    }

@@ -10,14 +10,11 @@ use Rattle.queries.specs.Writing.{few_bytes}
 use borrow.Author.Rules.{rules}
 use Rattle.queries.proofs.encode_trailer.Goals as goal
 
--- `queries::encode_trailer` meets its contract: four runs, each right behind the one before. Assumes nothing.
-four_long : (k : goal.Start) → length k.args.form.mark ≡ 4
-four_long k = search rules
-
 pub returns : goal.returns
 unfolding trailer_bytes word_bytes
 returns c =
     let room : c.args.at + 16 ≤ length c.args.s.now = c.requires.0 in
+    let four_long : length c.args.form.mark ≡ 4 = search rules in
     let b0 = get_or c.args.form.mark 0 0 ∷ get_or c.args.form.mark 1 0 ∷ get_or c.args.form.mark 2 0 ∷ get_or c.args.form.mark 3 0 ∷ [] in
     let b1 = edition_bytes c.args.form in
     let b2 = word_bytes (c.args.form.size * c.args.count) in
@@ -26,4 +23,4 @@ returns c =
     let e1 = one_more c.args.s.now c.write4.new.s c.write4-2.new.s c.args.at (c.args.at + 4) b0 b1 c.write4.ensures c.write4-2.ensures refl (omega arith) in
     let e2 = one_more c.args.s.now c.write4-2.new.s c.write_u32.new.s c.args.at (c.args.at + 8) (b0 ++ b1) b2 e1 second refl (omega arith) in
     one_more c.args.s.now c.write_u32.new.s c.write_u32-2.new.s c.args.at (c.args.at + 12) (b0 ++ b1 ++ b2) b3 e2 c.write_u32-2.ensures refl (omega arith)
-    ∙ ap (λ (l : List ℕ). put c.args.s.now c.args.at (l ++ b1 ++ b2 ++ b3)) (sym (four c.args.form.mark (four_long c.before.before.before.before.before.before.before.before.before.before.before.before.before.before.before.before.before.before.before)))
+    ∙ ap (λ (l : List ℕ). put c.args.s.now c.args.at (l ++ b1 ++ b2 ++ b3)) (sym (four c.args.form.mark four_long))

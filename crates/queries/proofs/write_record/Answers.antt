@@ -4,12 +4,10 @@ use Rattle.queries.specs.Writing.{refused_write, done_write, write_is, write_roo
 use borrow.Author.Rules.{rules}
 use Rattle.queries.proofs.write_record.Goals as goal
 
--- `queries::write_record` meets its contract. Assumes nothing.
--- the number that the tests come to
-number : (c : goal.After-refusal_with-number) → c.refusal_with-number.result ≡ write_refusal c.args.edition c.args.s.now c.args.at c.args.r
-number c =
-    let c.args = c.args in
-    simp (
+pub returns-then-number-ne0 : goal.returns-then-number-ne0
+returns-then-number-ne0 c =
+    let number : c.refusal_with-number.result ≡ write_refusal c.args.edition c.args.s.now c.args.at c.args.r =
+        simp (
       c.refusal_with-number.ensures,
       c.in_edition.ensures,
       c.has_cap_room.ensures,
@@ -20,17 +18,40 @@ number c =
       c.left_from.ensures,
       c.record_size-size.ensures,
     )
-    (sym (write_is c.args.edition c.args.s.now c.args.at c.args.r))
-
-pub returns-then-number-ne0 : goal.returns-then-number-ne0
-returns-then-number-ne0 c =
-    refused_write (write_refusal c.args.edition c.args.s.now c.args.at c.args.r) c.args.s.now c.args.at (record_bytes c.args.edition c.args.r) c.refusal_with-number.result (number c.before) c.if-number-ne0.true
+    (sym (write_is c.args.edition c.args.s.now c.args.at c.args.r)) in
+    refused_write (write_refusal c.args.edition c.args.s.now c.args.at c.args.r) c.args.s.now c.args.at (record_bytes c.args.edition c.args.r) c.refusal_with-number.result (number) c.if-number-ne0.true
 
 pub encode-requires : goal.encode-requires
 encode-requires c =
-    (write_room c.args.edition c.args.s.now c.args.at c.args.r (sym (number c.before.before) ∙ c.if-number-ne0.false)).room
+    let number : c.refusal_with-number.result ≡ write_refusal c.args.edition c.args.s.now c.args.at c.args.r =
+        simp (
+      c.refusal_with-number.ensures,
+      c.in_edition.ensures,
+      c.has_cap_room.ensures,
+      c.has_room.ensures,
+      c.first-ten.ensures,
+      c.is_edition.ensures,
+      c.first-fourteen.ensures,
+      c.left_from.ensures,
+      c.record_size-size.ensures,
+    )
+    (sym (write_is c.args.edition c.args.s.now c.args.at c.args.r)) in
+    (write_room c.args.edition c.args.s.now c.args.at c.args.r (sym (number) ∙ c.if-number-ne0.false)).room
 
 pub returns : goal.returns
 returns c =
+    let number : c.refusal_with-number.result ≡ write_refusal c.args.edition c.args.s.now c.args.at c.args.r =
+        simp (
+      c.refusal_with-number.ensures,
+      c.in_edition.ensures,
+      c.has_cap_room.ensures,
+      c.has_room.ensures,
+      c.first-ten.ensures,
+      c.is_edition.ensures,
+      c.first-fourteen.ensures,
+      c.left_from.ensures,
+      c.record_size-size.ensures,
+    )
+    (sym (write_is c.args.edition c.args.s.now c.args.at c.args.r)) in
     done_write (write_refusal c.args.edition c.args.s.now c.args.at c.args.r) c.args.s.now c.args.at (record_bytes c.args.edition c.args.r) c.refusal_with-number.result c.encode.new.s
-    (number c.before.before.before.before.before) c.if-number-ne0.false c.encode.ensures
+    (number) c.if-number-ne0.false c.encode.ensures

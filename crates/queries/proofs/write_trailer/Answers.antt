@@ -9,8 +9,8 @@ use Rattle.queries.proofs.write_trailer.Goals as goal
 pub returns-then-not-is_edition : goal.returns-then-not-is_edition
 returns-then-not-is_edition c =
     refused_write (query_trailer_refusal c.args.edition c.args.s.now c.args.at c.args.count) c.args.s.now c.args.at (trailer_bytes (query_form c.args.edition) c.args.count) 10
-    (sym (trailer_none c.args.edition c.args.s.now c.args.at c.args.count (sym c.is_edition.ensures ∙ not-true _ c.if-not-is_edition.true))) (λ z. omega arith)
+    (sym (trailer_none c.args.edition c.args.s.now c.args.at c.args.count (sym c.is_edition.ensures ∙ c.if-not-is_edition.true))) (λ z. omega arith)
 
 pub returns : goal.returns
 returns c =
-    rw (c.query_form.ensures, ← trailer_edition c.args.edition c.args.s.now c.args.at c.args.count (sym c.is_edition.ensures ∙ not-false _ c.if-not-is_edition.false)) at c.write_trailer_form.ensures
+    rw (c.query_form.ensures, ← trailer_edition c.args.edition c.args.s.now c.args.at c.args.count (sym c.is_edition.ensures ∙ c.if-not-is_edition.false)) at c.write_trailer_form.ensures

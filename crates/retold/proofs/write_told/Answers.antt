@@ -12,25 +12,6 @@ use Rattle.retold.specs.Laws as page
 use borrow.Author.Rules.{rules}
 use Rattle.retold.proofs.write_told.Goals as goal
 
--- No room first, then 15, then what the file opens to, then 16. Assumes nothing.
-refused : (c : goal.After-o-1) → (open_refusal answer_form c.args.log.now ≡ c.in-Refused.number) × (c.in-Refused.number ≡ 0 → ⊥)
-refused c =
-    let c.args.log.now = c.args.log.now in
-    opened_refused answer_form c.args.log.now _ (sym (c.open_form-o.ensures ∙ ap (λ (f : Form). opened f c.args.log.now) c.answer_form-form.ensures) ∙ c.in-Refused.is)
-
-holds : (c : goal.After-o-in-Records-1) → Holds answer_form c.args.log.now c.in-Records.edition c.in-Records.first c.in-Records.count
-holds c =
-    let c.args.log.now = c.args.log.now in
-    opened_records answer_form c.args.log.now _ _ _ (sym (c.open_form-o.ensures ∙ ap (λ (f : Form). opened f c.args.log.now) c.answer_form-form.ensures) ∙ c.in-Records.is)
-
--- whether every answer can be read decides
-decides : (c : goal.After-are_taken) → are_taken c.args.log.now (place_in answer_form c.args.log.now 0) (record_count c.args.log.now) ≡ c.are_taken.result
-decides c =
-    let c.args.log.now = c.args.log.now in
-    let h = holds c.before.before in
-    let start : place_in answer_form c.args.log.now 0 ≡ c.in-Records.first = omega (arith, h.starts) in
-    (λ i. are_taken c.args.log.now (start i) (sym h.counts i)) ∙ sym c.are_taken.ensures
-
 pub returns-then-out-lt327840 : goal.returns-then-out-lt327840
 returns-then-out-lt327840 c = no_room 327840 c.args.out.now _ (omega arith)
 
@@ -39,25 +20,45 @@ returns-then-log-gt262144 c =
     printed_as (refusal_room 327840 c.args.out.now (omega arith) (omega arith)) (refused_text_lem c.args.log.now (long c.args.log.now (omega arith)) (λ z. omega arith)) c.write_refused.ensures
 
 pub are_taken-requires : goal.are_taken-requires
-are_taken-requires c = omega (arith, (holds c.before).ends)
+are_taken-requires c =
+    let holds : Holds answer_form c.args.log.now c.in-Records.edition c.in-Records.first c.in-Records.count =
+        opened_records answer_form c.args.log.now _ _ _ (sym (c.open_form-o.ensures ∙ ap (λ (f : Form). opened f c.args.log.now) c.answer_form-form.ensures) ∙ c.in-Records.is) in
+    omega (arith, (holds).ends)
 
 pub write_entries-requires : goal.write_entries-requires
-write_entries-requires c = let h = holds c.before.before.before.before in (omega (arith, h.ends), (h.few, omega arith))
+write_entries-requires c =
+    let holds : Holds answer_form c.args.log.now c.in-Records.edition c.in-Records.first c.in-Records.count =
+        opened_records answer_form c.args.log.now _ _ _ (sym (c.open_form-o.ensures ∙ ap (λ (f : Form). opened f c.args.log.now) c.answer_form-form.ensures) ∙ c.in-Records.is) in
+    let h = holds in (omega (arith, h.ends), (h.few, omega arith))
 
 pub returns-in-Refused : goal.returns-in-Refused
 returns-in-Refused c =
-    let h = refused c.before.before.before.before.before in
+    let refused : (open_refusal answer_form c.args.log.now ≡ c.in-Refused.number) × (c.in-Refused.number ≡ 0 → ⊥) =
+        opened_refused answer_form c.args.log.now _ (sym (c.open_form-o.ensures ∙ ap (λ (f : Form). opened f c.args.log.now) c.answer_form-form.ensures) ∙ c.in-Refused.is) in
+    let h = refused in
     printed_as (refusal_room 327840 c.args.out.now (omega arith) (omega arith)) (refused_text_lem c.args.log.now (page.refused c.args.log.now _ (omega arith) h.0 h.1) h.1) c.write_refused-in-Refused.ensures
 
 pub returns-then-are_taken : goal.returns-then-are_taken
 returns-then-are_taken c =
-    let h = holds c.before.before.before.before.before.before.before in
+    let holds : Holds answer_form c.args.log.now c.in-Records.edition c.in-Records.first c.in-Records.count =
+        opened_records answer_form c.args.log.now _ _ _ (sym (c.open_form-o.ensures ∙ ap (λ (f : Form). opened f c.args.log.now) c.answer_form-form.ensures) ∙ c.in-Records.is) in
+    let decides : are_taken c.args.log.now (place_in answer_form c.args.log.now 0) (record_count c.args.log.now) ≡ c.are_taken.result =
+        let h = holds in
+    let start : place_in answer_form c.args.log.now 0 ≡ c.in-Records.first = omega (arith, h.starts) in
+    (λ i. are_taken c.args.log.now (start i) (sym h.counts i)) ∙ sym c.are_taken.ensures in
+    let h = holds in
     let start : c.in-Records.first ≡ place_in answer_form c.args.log.now 0 = omega (arith, h.starts) in
     printed_as (page_room 327840 c.args.out.now (omega arith))
-    ((λ i. file_text (rows (h.counts i) (entries_told c.args.log.now (start i) (h.counts i)))) ∙ told_text c.args.log.now (page.opened c.args.log.now _ (omega arith) h.none (decides c.before.before.before.before.before ∙ c.if-are_taken.true)))
+    ((λ i. file_text (rows (h.counts i) (entries_told c.args.log.now (start i) (h.counts i)))) ∙ told_text c.args.log.now (page.opened c.args.log.now _ (omega arith) h.none (decides ∙ c.if-are_taken.true)))
     c.write_entries.ensures
 
 pub returns-else-are_taken : goal.returns-else-are_taken
 returns-else-are_taken c =
-    let h = holds c.before.before.before.before.before.before.before in
-    printed_as (refusal_room 327840 c.args.out.now (omega arith) (omega arith)) (refused_text_lem c.args.log.now (page.opened c.args.log.now _ (omega arith) h.none (decides c.before.before.before.before.before ∙ c.if-are_taken.false)) (λ z. omega arith)) c.write_refused-else-are_taken.ensures
+    let holds : Holds answer_form c.args.log.now c.in-Records.edition c.in-Records.first c.in-Records.count =
+        opened_records answer_form c.args.log.now _ _ _ (sym (c.open_form-o.ensures ∙ ap (λ (f : Form). opened f c.args.log.now) c.answer_form-form.ensures) ∙ c.in-Records.is) in
+    let decides : are_taken c.args.log.now (place_in answer_form c.args.log.now 0) (record_count c.args.log.now) ≡ c.are_taken.result =
+        let h = holds in
+    let start : place_in answer_form c.args.log.now 0 ≡ c.in-Records.first = omega (arith, h.starts) in
+    (λ i. are_taken c.args.log.now (start i) (sym h.counts i)) ∙ sym c.are_taken.ensures in
+    let h = holds in
+    printed_as (refusal_room 327840 c.args.out.now (omega arith) (omega arith)) (refused_text_lem c.args.log.now (page.opened c.args.log.now _ (omega arith) h.none (decides ∙ c.if-are_taken.false)) (λ z. omega arith)) c.write_refused-else-are_taken.ensures

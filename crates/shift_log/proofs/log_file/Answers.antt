@@ -7,38 +7,52 @@ use Rattle.shift_log.proofs.Logging.{log_refused, log_short, logs}
 use borrow.Author.Rules.{rules}
 use Rattle.shift_log.proofs.log_file.Goals as goal
 
--- `shift_log::log_file` meets its contract: in each arm, what the file opened to. Assumes nothing.
-refused : (c : goal.After-o-1) → (open_refusal (file_form c.args.file.now) c.args.file.now ≡ c.in-Refused.number) × (c.in-Refused.number ≡ 0 → ⊥)
-refused c = let c.args.file.now = c.args.file.now in opened_refused (file_form c.args.file.now) c.args.file.now _ (sym c.open_file-o.ensures ∙ c.in-Refused.is)
-
-holds : (c : goal.After-o-in-Records-1) → Holds (file_form c.args.file.now) c.args.file.now c.in-Records.edition c.in-Records.first c.in-Records.count
-holds c = let c.args.file.now = c.args.file.now in opened_records (file_form c.args.file.now) c.args.file.now _ _ _ (sym c.open_file-o.ensures ∙ c.in-Records.is)
-
 pub overflow_mul-count : goal.overflow_mul-count
-overflow_mul-count c = omega (arith, (holds c.before).few)
+overflow_mul-count c =
+    let holds : Holds (file_form c.args.file.now) c.args.file.now c.in-Records.edition c.in-Records.first c.in-Records.count =
+        opened_records (file_form c.args.file.now) c.args.file.now _ _ _ (sym c.open_file-o.ensures ∙ c.in-Records.is) in
+    omega (arith, (holds).few)
 
 pub overflow_add-count : goal.overflow_add-count
-overflow_add-count c = omega (arith, (holds c.before).few)
+overflow_add-count c =
+    let holds : Holds (file_form c.args.file.now) c.args.file.now c.in-Records.edition c.in-Records.first c.in-Records.count =
+        opened_records (file_form c.args.file.now) c.args.file.now _ _ _ (sym c.open_file-o.ensures ∙ c.in-Records.is) in
+    omega (arith, (holds).few)
 
 pub returns-then-out-count : goal.returns-then-out-count
 returns-then-out-count c =
-    let h = holds c.before.before in
+    let holds : Holds (file_form c.args.file.now) c.args.file.now c.in-Records.edition c.in-Records.first c.in-Records.count =
+        opened_records (file_form c.args.file.now) c.args.file.now _ _ _ (sym c.open_file-o.ensures ∙ c.in-Records.is) in
+    let h = holds in
     refuses 14 _ _ c.args.queue.now c.args.out.now (log_short c.args.file.now c.args.out.now h.none (omega (arith, h.counts, c.if-out-count.true))) (λ z. omega arith)
 
 pub log_records-requires : goal.log_records-requires
-log_records-requires c = (omega (arith, records_end (holds c.before.before.before.before)), omega arith)
+log_records-requires c =
+    let holds : Holds (file_form c.args.file.now) c.args.file.now c.in-Records.edition c.in-Records.first c.in-Records.count =
+        opened_records (file_form c.args.file.now) c.args.file.now _ _ _ (sym c.open_file-o.ensures ∙ c.in-Records.is) in
+    (omega (arith, records_end (holds)), omega arith)
 
 pub overflow_cast-count : goal.overflow_cast-count
-overflow_cast-count c = record { fits = omega (arith, (holds c.before.before.before.before.before.before.before.before.before.before.before).few) }
+overflow_cast-count c =
+    let holds : Holds (file_form c.args.file.now) c.args.file.now c.in-Records.edition c.in-Records.first c.in-Records.count =
+        opened_records (file_form c.args.file.now) c.args.file.now _ _ _ (sym c.open_file-o.ensures ∙ c.in-Records.is) in
+    record { fits = omega (arith, (holds).few) }
 
 pub encode_trailer-requires : goal.encode_trailer-requires
-encode_trailer-requires c = (omega arith, (holds c.before.before.before.before.before.before.before.before.before.before.before).few)
+encode_trailer-requires c =
+    let holds : Holds (file_form c.args.file.now) c.args.file.now c.in-Records.edition c.in-Records.first c.in-Records.count =
+        opened_records (file_form c.args.file.now) c.args.file.now _ _ _ (sym c.open_file-o.ensures ∙ c.in-Records.is) in
+    (omega arith, (holds).few)
 
 pub returns-in-Refused : goal.returns-in-Refused
 returns-in-Refused c =
-    let h = refused c.before in
+    let refused : (open_refusal (file_form c.args.file.now) c.args.file.now ≡ c.in-Refused.number) × (c.in-Refused.number ≡ 0 → ⊥) =
+        opened_refused (file_form c.args.file.now) c.args.file.now _ (sym c.open_file-o.ensures ∙ c.in-Refused.is) in
+    let h = refused in
     refuses c.in-Refused.number _ _ c.args.queue.now c.args.out.now (log_refused c.args.file.now c.args.out.now _ h.0 h.1) h.1
 
 pub returns-else-out-count : goal.returns-else-out-count
 returns-else-out-count c =
-    logs c.args.file.now c.args.queue.now c.args.out.now (holds c.before.before.before.before.before.before.before.before.before.before.before.before.before.before) (omega arith) c.answer_form-form.ensures c.log_records.ensures.out_after c.encode_trailer.ensures c.log_records.ensures.queue_after
+    let holds : Holds (file_form c.args.file.now) c.args.file.now c.in-Records.edition c.in-Records.first c.in-Records.count =
+        opened_records (file_form c.args.file.now) c.args.file.now _ _ _ (sym c.open_file-o.ensures ∙ c.in-Records.is) in
+    logs c.args.file.now c.args.queue.now c.args.out.now (holds) (omega arith) c.answer_form-form.ensures c.log_records.ensures.out_after c.encode_trailer.ensures c.log_records.ensures.queue_after

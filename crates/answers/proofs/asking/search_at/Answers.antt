@@ -17,7 +17,10 @@ returns-then-number-ne0 c =
     let r = record_at c.args.edition c.args.s.now c.args.at in
     let words = length c.args.queue.now in
     let e = search_refused r words c.refusal_at-number.result c.refusal_at-number.ensures c.if-number-ne0.true in
-    (e, after_refusal r words c.refusal_at-number.result c.args.queue.now e)
+    record {
+      value = e;
+      queue_after = after_refusal r words c.refusal_at-number.result c.args.queue.now e;
+    }
 
 pub survives_at-requires : goal.survives_at-requires
 survives_at-requires c =
@@ -36,7 +39,10 @@ pub returns-then-survives_at : goal.returns-then-survives_at
 returns-then-survives_at c =
     let r = record_at c.args.edition c.args.s.now c.args.at in
     let f = c.search_levels.ensures.value ∙ ap (λ (x : Record). searched x (length c.clear_unless.new.queue)) c.decode-r.ensures ∙ ap (searched r) c.clear_unless.auto.queue in
-    (f, c.search_levels.ensures.queue_unchanged ∙ c.clear_unless.ensures ∙ sym (rw f at (after_answer c.search_levels.result c.search_levels.ensures.answers c.args.queue.now)))
+    record {
+      value = f;
+      queue_after = c.search_levels.ensures.queue_unchanged ∙ c.clear_unless.ensures ∙ sym (rw f at (after_answer c.search_levels.result c.search_levels.ensures.answers c.args.queue.now));
+    }
 
 pub returns : goal.returns
 returns c =
@@ -45,4 +51,7 @@ returns c =
     let none : search_refusal r words ≡ 0 = sym c.refusal_at-number.ensures ∙ omega (arith, c.if-number-ne0.false) in
     let lost = ap (λ (n : ℕ). survives (query r n) origin origin) (sym c.clear_unless.auto.queue) ∙ sym c.survives_at.ensures ∙ c.if-survives_at.false in
     let f = sym (search_clear r words none lost) in
-    (f, c.clear_unless.ensures ∙ sym (rw (← f) (after_answer (Clear 1) tt c.args.queue.now)))
+    record {
+      value = f;
+      queue_after = c.clear_unless.ensures ∙ sym (rw (← f) (after_answer (Clear 1) tt c.args.queue.now));
+    }

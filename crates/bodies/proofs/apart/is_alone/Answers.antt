@@ -24,7 +24,7 @@ pub overflow_add-block : goal.overflow_add-block
 overflow_add-block c = omega (arith, c.loop-block.invariant.most)
 
 pub loop-block-preserved : goal.loop-block-preserved
-loop-block-preserved c = passed_one c.loop-block.invariant (omega (arith, c.requires.1.few)) (c.is_asunder.ensures (not-false _ c.if-not-is_asunder.false))
+loop-block-preserved c = passed_one c.loop-block.invariant (omega (arith, c.requires.1.few)) (c.is_asunder.ensures (c.if-not-is_asunder.false))
 
 pub returns : goal.returns
 returns c = λ e block l. c.loop-block.invariant.each block (omega arith) (omega arith)

@@ -22,7 +22,7 @@ pub loop-j-smaller : goal.loop-j-smaller
 loop-j-smaller c = omega arith
 
 pub loop-j-preserved : goal.loop-j-preserved
-loop-j-preserved c = passed_one c.loop-j.invariant (omega arith) (c.are_distant.ensures (not-false _ c.if-not-are_distant.false))
+loop-j-preserved c = passed_one c.loop-j.invariant (omega arith) (c.are_distant.ensures (c.if-not-are_distant.false))
 
 pub returns : goal.returns
 returns c = c.loop-j.invariant

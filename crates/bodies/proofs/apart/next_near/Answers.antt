@@ -37,7 +37,7 @@ loop-j-smaller c = omega (arith, c.block_end-end.ensures)
 pub loop-j-preserved : goal.loop-j-preserved
 loop-j-preserved c =
     passed_on c.loop-j.invariant (omega (arith, c.block_end-end.ensures)) (omega (arith, c.block_end-end.ensures))
-    (λ x f g. block_distant c.requires.1.lent (c.is_asunder.ensures (not-false _ c.if-not-is_asunder.false)) (record { from = omega arith; until = omega (arith, c.block_end-end.ensures); there = omega (arith, c.block_end-end.ensures) }))
+    (λ x f g. block_distant c.requires.1.lent (c.is_asunder.ensures (c.if-not-is_asunder.false)) (record { from = omega arith; until = omega (arith, c.block_end-end.ensures); there = omega (arith, c.block_end-end.ensures) }))
 
 pub returns : goal.returns
 returns c = c.loop-j.invariant

@@ -24,7 +24,7 @@ loop-i-smaller c = omega (arith, c.block_end-i.ensures)
 pub loop-i-preserved : goal.loop-i-preserved
 loop-i-preserved c =
     passed_on c.loop-i.invariant (omega (arith, c.block_end-i.ensures)) (omega (arith, c.block_end-i.ensures))
-    (λ x f g. record { block = c.loop-i.i / 32; from = omega arith; until = omega (arith, c.block_end-i.ensures); by_bounds = c.is_block_alone.ensures (not-false _ c.if-not-is_block_alone.false) })
+    (λ x f g. record { block = c.loop-i.i / 32; from = omega arith; until = omega (arith, c.block_end-i.ensures); by_bounds = c.is_block_alone.ensures (c.if-not-is_block_alone.false) })
 
 pub returns : goal.returns
 returns c = c.loop-i.invariant

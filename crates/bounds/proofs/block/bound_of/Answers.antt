@@ -9,9 +9,10 @@ use native.Mathlib.Omega.{arith}
 use borrow.Author.Rules.{rules}
 use Rattle.bounds.proofs.block.bound_of.Goals as goal
 
-in_block : (c : goal.After-block_end-end) (p : ℕ) → p < 3 → BlockIn c.args.s.now c.args.e.now p (32 * c.args.block) c.block_end-end.result
-in_block c p l =
-    record {
+pub ends_on-x-requires : goal.ends_on-x-requires
+ends_on-x-requires c =
+    let in_block : (p : ℕ) → p < 3 → BlockIn c.args.s.now c.args.e.now p (32 * c.args.block) c.block_end-end.result =
+        λ p l. record {
       is_axis = l;
       some = omega (arith, c.block_end-end.ensures, c.requires.there);
       few = omega (arith, c.block_end-end.ensures, c.requires.there, c.requires.few);
@@ -19,16 +20,36 @@ in_block c p l =
       end_there = omega (arith, c.block_end-end.ensures, c.requires.there, c.requires.end_there);
       start = λ q f g. c.requires.start q f (omega (arith, g, c.block_end-end.ensures));
       end = λ q f g. c.requires.end q f (omega (arith, g, c.block_end-end.ensures));
-    }
-
-pub ends_on-x-requires : goal.ends_on-x-requires
-ends_on-x-requires c = in_block c 0 (omega arith)
+    } in
+    in_block 0 (omega arith)
 
 pub ends_on-y-requires : goal.ends_on-y-requires
-ends_on-y-requires c = in_block c.before 1 (omega arith)
+ends_on-y-requires c =
+    let in_block : (p : ℕ) → p < 3 → BlockIn c.args.s.now c.args.e.now p (32 * c.args.block) c.block_end-end.result =
+        λ p l. record {
+      is_axis = l;
+      some = omega (arith, c.block_end-end.ensures, c.requires.there);
+      few = omega (arith, c.block_end-end.ensures, c.requires.there, c.requires.few);
+      start_there = omega (arith, c.block_end-end.ensures, c.requires.there, c.requires.start_there);
+      end_there = omega (arith, c.block_end-end.ensures, c.requires.there, c.requires.end_there);
+      start = λ q f g. c.requires.start q f (omega (arith, g, c.block_end-end.ensures));
+      end = λ q f g. c.requires.end q f (omega (arith, g, c.block_end-end.ensures));
+    } in
+    in_block 1 (omega arith)
 
 pub ends_on-z-requires : goal.ends_on-z-requires
-ends_on-z-requires c = in_block c.before.before 2 (omega arith)
+ends_on-z-requires c =
+    let in_block : (p : ℕ) → p < 3 → BlockIn c.args.s.now c.args.e.now p (32 * c.args.block) c.block_end-end.result =
+        λ p l. record {
+      is_axis = l;
+      some = omega (arith, c.block_end-end.ensures, c.requires.there);
+      few = omega (arith, c.block_end-end.ensures, c.requires.there, c.requires.few);
+      start_there = omega (arith, c.block_end-end.ensures, c.requires.there, c.requires.start_there);
+      end_there = omega (arith, c.block_end-end.ensures, c.requires.there, c.requires.end_there);
+      start = λ q f g. c.requires.start q f (omega (arith, g, c.block_end-end.ensures));
+      end = λ q f g. c.requires.end q f (omega (arith, g, c.block_end-end.ensures));
+    } in
+    in_block 2 (omega arith)
 
 pub returns : goal.returns
 returns c =

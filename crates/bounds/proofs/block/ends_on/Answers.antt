@@ -16,15 +16,6 @@ use Rattle.rules.specs.Bounds.{over_face}
 use Rattle.bounds.specs.Block.{FaceIn, Picked, picked_more, picked_all, least_absorbs, greatest_absorbs}
 use Rattle.bounds.proofs.block.ends_on.Goals as goal
 
--- triangle i is there at both moments, in range
-faces : (c : goal.In-loop-i invariant-loop decreases-loop) → FaceIn c.args.s.now (9 * c.loop-i.i + c.args.axis) × FaceIn c.args.e.now (9 * c.loop-i.i + c.args.axis)
-faces c =
-    let c.before = c.before in
-    let at = 9 * c.loop-i.i + c.args.axis in (
-      record { there = omega (arith, c.requires.start_there, c.requires.is_axis); first = c.requires.start at (omega (arith, c.loop-i.invariant.0)) (omega (arith, c.requires.is_axis)); second = c.requires.start (at + 3) (omega (arith, c.loop-i.invariant.0)) (omega (arith, c.requires.is_axis)); third = c.requires.start (at + 6) (omega (arith, c.loop-i.invariant.0)) (omega (arith, c.requires.is_axis)) },
-      record { there = omega (arith, c.requires.end_there, c.requires.is_axis); first = c.requires.end at (omega (arith, c.loop-i.invariant.0)) (omega (arith, c.requires.is_axis)); second = c.requires.end (at + 3) (omega (arith, c.loop-i.invariant.0)) (omega (arith, c.requires.is_axis)); third = c.requires.end (at + 6) (omega (arith, c.loop-i.invariant.0)) (omega (arith, c.requires.is_axis)) },
-    )
-
 pub loop-i-init : goal.loop-i-init
 unfolding min_z max_z
 loop-i-init c =
@@ -38,10 +29,22 @@ loop-i-init c =
     )
 
 pub triangle_least-requires : goal.triangle_least-requires
-triangle_least-requires c = faces c
+triangle_least-requires c =
+    let faces : FaceIn c.args.s.now (9 * c.loop-i.i + c.args.axis) × FaceIn c.args.e.now (9 * c.loop-i.i + c.args.axis) =
+        let at = 9 * c.loop-i.i + c.args.axis in (
+      record { there = omega (arith, c.requires.start_there, c.requires.is_axis); first = c.requires.start at (omega (arith, c.loop-i.invariant.0)) (omega (arith, c.requires.is_axis)); second = c.requires.start (at + 3) (omega (arith, c.loop-i.invariant.0)) (omega (arith, c.requires.is_axis)); third = c.requires.start (at + 6) (omega (arith, c.loop-i.invariant.0)) (omega (arith, c.requires.is_axis)) },
+      record { there = omega (arith, c.requires.end_there, c.requires.is_axis); first = c.requires.end at (omega (arith, c.loop-i.invariant.0)) (omega (arith, c.requires.is_axis)); second = c.requires.end (at + 3) (omega (arith, c.loop-i.invariant.0)) (omega (arith, c.requires.is_axis)); third = c.requires.end (at + 6) (omega (arith, c.loop-i.invariant.0)) (omega (arith, c.requires.is_axis)) },
+    ) in
+    faces
 
 pub triangle_greatest-requires : goal.triangle_greatest-requires
-triangle_greatest-requires c = faces c.before.before
+triangle_greatest-requires c =
+    let faces : FaceIn c.args.s.now (9 * c.loop-i.i + c.args.axis) × FaceIn c.args.e.now (9 * c.loop-i.i + c.args.axis) =
+        let at = 9 * c.loop-i.i + c.args.axis in (
+      record { there = omega (arith, c.requires.start_there, c.requires.is_axis); first = c.requires.start at (omega (arith, c.loop-i.invariant.0)) (omega (arith, c.requires.is_axis)); second = c.requires.start (at + 3) (omega (arith, c.loop-i.invariant.0)) (omega (arith, c.requires.is_axis)); third = c.requires.start (at + 6) (omega (arith, c.loop-i.invariant.0)) (omega (arith, c.requires.is_axis)) },
+      record { there = omega (arith, c.requires.end_there, c.requires.is_axis); first = c.requires.end at (omega (arith, c.loop-i.invariant.0)) (omega (arith, c.requires.is_axis)); second = c.requires.end (at + 3) (omega (arith, c.loop-i.invariant.0)) (omega (arith, c.requires.is_axis)); third = c.requires.end (at + 6) (omega (arith, c.loop-i.invariant.0)) (omega (arith, c.requires.is_axis)) },
+    ) in
+    faces
 
 pub loop-i-preserved : goal.loop-i-preserved
 unfolding min_z max_z

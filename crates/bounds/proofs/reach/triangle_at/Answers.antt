@@ -36,4 +36,7 @@ returns c =
     let b1 = back₂ w64 w32 ◌-ℤ◌ y' x' c.minus-b1.type_inv c.minus-b1.ensures in
     let c1 = back₂ w64 w32 ◌-ℤ◌ z' x' c.minus-c1.type_inv c.minus-c1.ensures in
     let e : ◌≡◌ {A = Kernel} _ (triangle_at c.args.s.now c.args.e.now c.args.at) = λ i. record { a0 = a0 i; b0 = b0 i; c0 = c0 i; a1 = a1 i; b1 = b1 i; c1 = c1 i } in
-    (e, rw e (record { a0 = first x; b0 = side y x; c0 = side z x; a1 = first x'; b1 = side y' x'; c1 = side z' x' }))
+    record {
+      value = e;
+      wide = rw e (record { a0 = first x; b0 = side y x; c0 = side z x; a1 = first x'; b1 = side y' x'; c1 = side z' x' });
+    }

@@ -9,18 +9,16 @@ use Rattle.bounds.specs.Staying.{exchange_taken, replaceable, replaced_known}
 use Rattle.bounds.proofs.Refusing.{refuses_replacing, replaces}
 use Rattle.bounds.proofs.replace.replace.Goals as goal
 
--- what the test said
-taken : (c : goal.Else-number-ne0) → exchange_refusal c.args.edition (body c.args.count c.args.start.now c.args.end.now) c.args.bounds.now c.args.n c.args.corners.now ≡ 0
-taken c = sym c.replace_refusal-number.ensures ∙ c.if-number-ne0.false
-
 pub returns-then-number-ne0 : goal.returns-then-number-ne0
 returns-then-number-ne0 c =
     refuses_replacing c.args.edition (body c.args.count c.args.start.now c.args.end.now) c.args.bounds.now c.args.n c.args.corners.now _ c.replace_refusal-number.ensures c.if-number-ne0.true
 
 pub exchange-requires : goal.exchange-requires
 exchange-requires c =
+    let taken : exchange_refusal c.args.edition (body c.args.count c.args.start.now c.args.end.now) c.args.bounds.now c.args.n c.args.corners.now ≡ 0 =
+        sym c.replace_refusal-number.ensures ∙ c.if-number-ne0.false in
     let m = body c.args.count c.args.start.now c.args.end.now in
-    let h = replaceable c.args.edition m c.args.bounds.now c.args.n c.args.corners.now (exchange_taken c.args.edition m c.args.bounds.now c.args.n c.args.corners.now (taken c.before.before.before)) in
+    let h = replaceable c.args.edition m c.args.bounds.now c.args.n c.args.corners.now (exchange_taken c.args.edition m c.args.bounds.now c.args.n c.args.corners.now (taken)) in
     record {
       is_body = h.is_body;
       there = h.there;
@@ -30,4 +28,7 @@ exchange-requires c =
     }
 
 pub returns : goal.returns
-returns c = replaces (sym (taken c.before.before.before.before.before.before.before)) c.exchange.ensures
+returns c =
+    let taken : exchange_refusal c.args.edition (body c.args.count c.args.start.now c.args.end.now) c.args.bounds.now c.args.n c.args.corners.now ≡ 0 =
+        sym c.replace_refusal-number.ensures ∙ c.if-number-ne0.false in
+    replaces (sym (taken)) c.exchange.ensures

@@ -68,4 +68,7 @@ returns c =
     let n : c.loop-i.i ≡ length c.loop-i.p = omega arith in
     let same : c.loop-i.p ≡ take 24 c.args.numbers.now =
     sym (ap (λ (k : ℕ). take k c.loop-i.p) n ∙ take-length c.loop-i.p) ∙ c.loop-i.invariant.2 ∙ ap (λ (k : ℕ). take k c.args.numbers.now) (sym e) in
-    (same, subst Each (sym same) (subst (λ (k : ℕ). Each (take k c.args.numbers.now)) (sym e) c.loop-i.invariant.3))
+    record {
+      value = same;
+      each = subst Each (sym same) (subst (λ (k : ℕ). Each (take k c.args.numbers.now)) (sym e) c.loop-i.invariant.3);
+    }

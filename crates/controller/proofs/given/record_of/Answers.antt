@@ -8,9 +8,9 @@ use Rattle.controller.proofs.given.record_of.Goals as goal
 
 pub returns : goal.returns
 returns c =
-    (
-      rw c.first_24-points.ensures.value,
-      record {
+    record {
+      value = rw c.first_24-points.ensures.value;
+      held = record {
         kind = omega (arith, c.ranges.kind);
         flags = omega (arith, c.ranges.flags);
         byte2 = omega arith;
@@ -25,5 +25,5 @@ returns c =
         count = ap length c.first_24-points.ensures.value ∙ length-take-le 24 c.args.numbers.now c.requires;
         points = c.first_24-points.ensures.each;
         narrow = λ e. let z : ◌≡◌ {A = ℕ} 0 1 = cc in absurd (omega arith);
-      },
-    )
+      };
+    }

@@ -1,3 +1,4 @@
+use mir.Syntax.{w32}
 use mir.Facts.{to_z-of_z}
 use borrow.Author.Rules.{sfits_of}
 use Rattle.queries.specs.Coordinates.{read_more, read_end}
@@ -17,5 +18,5 @@ loop-i-preserved c =
     (
       omega arith,
       simp length-set c.loop-i.invariant.1,
-      read_more _ _ c.loop-i.p c.loop-i.i c.loop-i.invariant.2 _ (omega arith) (to_z-of_z (sfits_of c.read_i32.type_inv) ∙ c.read_i32.ensures),
+      read_more _ _ c.loop-i.p c.loop-i.i c.loop-i.invariant.2 _ (omega arith) (to_z-of_z {w = w32} (sfits_of c.read_i32.type_inv) ∙ c.read_i32.ensures),
     )

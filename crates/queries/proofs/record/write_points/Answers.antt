@@ -1,8 +1,9 @@
+use mir.Val.{SFits}
 use mir.Syntax.{w32}
 use mir.Val.{to_z, of_z}
 use mir.Facts.{to_z-of_z}
 use Rattle.queries.specs.Coordinates.{write_length, write_more}
-use borrow.Author.Rules.{sfits_of}
+use borrow.Author.Rules.{rules}
 use Rattle.little.specs.Put.{put_nil}
 use Prim.Native.Nat.{ℕ, ◌≤◌, ◌-◌}
 use mathlib.Core.List.{List}
@@ -21,9 +22,10 @@ loop-i-init c = (omega arith, sym (put_nil _ _))
 
 pub loop-i-preserved : goal.loop-i-preserved
 loop-i-preserved c =
+    let fits : SFits w32 (get_or c.args.p c.loop-i.i (pos 0)) = search rules in
     (
       omega arith,
-      write_more c.args.s.now c.args.at c.args.t3 c.loop-i.i (omega arith) c.loop-i.s c.write_i32.new.s
-          (to_z w32 (of_z w32 (get_or c.args.t3 c.loop-i.i (pos 0)))) (omega arith) c.loop-i.invariant.1
-          (to_z-of_z (sfits_of c.write_i32-arg-in-loop-i-1.given)) c.write_i32.ensures,
+      write_more c.args.s.now c.args.at c.args.p c.loop-i.i (omega arith) c.loop-i.s c.write_i32.new.s
+          (to_z w32 (of_z w32 (get_or c.args.p c.loop-i.i (pos 0)))) (omega arith) c.loop-i.invariant.1
+          (to_z-of_z fits) c.write_i32.ensures,
     )

@@ -15,7 +15,10 @@ returns-then-number-ne0 c =
     let r = record_at c.args.edition c.args.s.now c.args.at in
     let words = length c.args.queue.now in
     let e = search_refused r words c.search_refusal-number.result (c.search_refusal-number.ensures ∙ ap (λ (x : Record). search_refusal x words) c.decode-r.ensures) c.if-number-ne0.true in
-    (e, after_refusal r words c.search_refusal-number.result c.args.queue.now e)
+    record {
+      value = e;
+      queue_after = after_refusal r words c.search_refusal-number.result c.args.queue.now e;
+    }
 
 pub search_levels-requires : goal.search_levels-requires
 search_levels-requires c =
@@ -28,4 +31,7 @@ pub returns : goal.returns
 returns c =
     let r = record_at c.args.edition c.args.s.now c.args.at in
     let f = c.search_levels.ensures.value ∙ ap (λ (x : Record). searched x (length c.clear_unless.new.queue)) c.decode-r.ensures ∙ ap (searched r) c.clear_unless.auto.queue in
-    (f, c.search_levels.ensures.queue_unchanged ∙ c.clear_unless.ensures ∙ sym (rw f at (after_answer c.search_levels.result c.search_levels.ensures.answers c.args.queue.now)))
+    record {
+      value = f;
+      queue_after = c.search_levels.ensures.queue_unchanged ∙ c.clear_unless.ensures ∙ sym (rw f at (after_answer c.search_levels.result c.search_levels.ensures.answers c.args.queue.now));
+    }
