@@ -31,4 +31,5 @@ answer_records-requires c =
 
 pub returns : goal.returns
 returns c =
-    known eight (back c.args.r _ _ c.requires.0 c.requires.1 (omega arith) c.encode.ensures) (alone eight c.answer_records.ensures.out_after c.answer_records.ensures.queue_after)
+    let asked = known eight (back c.args.r _ _ c.requires.0 c.requires.1 (omega arith) c.encode.ensures) (alone eight c.answer_records.ensures.out_after c.answer_records.ensures.queue_after) in
+    record { out_after = asked.0; queue_after = asked.1 }
