@@ -43,4 +43,4 @@ pub shape_of-out : goal.shape_of-out
 shape_of-out c = c.loop-i.invariant.numbers
 
 pub returns : goal.returns
-returns c = walked_all bytes_of c.loop-i.invariant (omega arith)
+returns c = let walked = walked_all bytes_of c.loop-i.invariant (omega arith) in record { out_after = walked.0; queue_after = walked.1 }
