@@ -21,8 +21,8 @@ abbrev pub invariant-loop-i : goal.invariant-loop-i
 invariant-loop-i l =
     (l.first ≤ l.i)
     × ((l.i ≤ l.end)
-    × (((a : Axis) → place a ≡ l.axis → Picked min_z l.s l.e a l.first l.i (to_z w32 l.least))
-    × ((a : Axis) → place a ≡ l.axis → Picked max_z l.s l.e a l.first l.i (to_z w32 l.greatest))))
+    × (((a : Axis) → place a ≡ l.axis → Picked min_z l.s l.e a l.first l.i l.least)
+    × ((a : Axis) → place a ≡ l.axis → Picked max_z l.s l.e a l.first l.i l.greatest)))
 
 abbrev pub decreases-loop-i : goal.decreases-loop-i
 decreases-loop-i l = l.end - l.i
