@@ -51,20 +51,20 @@ unfolding min_z max_z
 loop-i-preserved c =
     let low = back w32 c.triangle_least.type_inv c.triangle_least.ensures in
     let up = back w32 c.triangle_greatest.type_inv c.triangle_greatest.ensures in
-    let lower = back w32 c.lesser-least.type_inv (c.lesser-least.ensures ∙ ap (min_z (to_z w32 c.loop-i.least)) low) in
-    let upper = back w32 c.greater-greatest.type_inv (c.greater-greatest.ensures ∙ ap (max_z (to_z w32 c.loop-i.greatest)) up) in (
+    let lower = back w32 c.lesser-least.type_inv (c.lesser-least.ensures ∙ ap (min_z (to_z w32 c.loop-i.least-bits)) low) in
+    let upper = back w32 c.greater-greatest.type_inv (c.greater-greatest.ensures ∙ ap (max_z (to_z w32 c.loop-i.greatest-bits)) up) in (
       omega (arith, c.loop-i.invariant.0),
       (
         omega arith,
         (
           λ x h.
               subst (Picked min_z c.args.s.now c.args.e.now x c.args.first (c.loop-i.i + 1))
-              (ap (λ (p : ℕ). min_z (to_z w32 c.loop-i.least) (min_z (over_face min_z c.args.s.now (9 * c.loop-i.i + p)) (over_face min_z c.args.e.now (9 * c.loop-i.i + p)))) h ∙ sym lower)
-              (picked_more min_z least_absorbs c.args.s.now c.args.e.now x c.args.first c.loop-i.i (to_z w32 c.loop-i.least) (c.loop-i.invariant.1.1.0 x h)),
+              (ap (λ (p : ℕ). min_z (to_z w32 c.loop-i.least-bits) (min_z (over_face min_z c.args.s.now (9 * c.loop-i.i + p)) (over_face min_z c.args.e.now (9 * c.loop-i.i + p)))) h ∙ sym lower)
+              (picked_more min_z least_absorbs c.args.s.now c.args.e.now x c.args.first c.loop-i.i (to_z w32 c.loop-i.least-bits) (c.loop-i.invariant.1.1.0 x h)),
           λ x h.
               subst (Picked max_z c.args.s.now c.args.e.now x c.args.first (c.loop-i.i + 1))
-              (ap (λ (p : ℕ). max_z (to_z w32 c.loop-i.greatest) (max_z (over_face max_z c.args.s.now (9 * c.loop-i.i + p)) (over_face max_z c.args.e.now (9 * c.loop-i.i + p)))) h ∙ sym upper)
-              (picked_more max_z greatest_absorbs c.args.s.now c.args.e.now x c.args.first c.loop-i.i (to_z w32 c.loop-i.greatest) (c.loop-i.invariant.1.1.1 x h)),
+              (ap (λ (p : ℕ). max_z (to_z w32 c.loop-i.greatest-bits) (max_z (over_face max_z c.args.s.now (9 * c.loop-i.i + p)) (over_face max_z c.args.e.now (9 * c.loop-i.i + p)))) h ∙ sym upper)
+              (picked_more max_z greatest_absorbs c.args.s.now c.args.e.now x c.args.first c.loop-i.i (to_z w32 c.loop-i.greatest-bits) (c.loop-i.invariant.1.1.1 x h)),
         ),
       ),
     )
@@ -74,6 +74,6 @@ unfolding min_z max_z
 returns c =
     let last : c.loop-i.i ≡ c.args.end = omega (arith, c.loop-i.invariant.1.0) in
     record {
-      least = λ x h. picked_all min_z least_absorbs c.args.s.now c.args.e.now x c.args.first c.args.end _ c.requires.some (subst (λ (n : ℕ). Picked min_z c.args.s.now c.args.e.now x c.args.first n (to_z w32 c.loop-i.least)) last (c.loop-i.invariant.1.1.0 x h));
-      greatest = λ x h. picked_all max_z greatest_absorbs c.args.s.now c.args.e.now x c.args.first c.args.end _ c.requires.some (subst (λ (n : ℕ). Picked max_z c.args.s.now c.args.e.now x c.args.first n (to_z w32 c.loop-i.greatest)) last (c.loop-i.invariant.1.1.1 x h));
+      least = λ x h. picked_all min_z least_absorbs c.args.s.now c.args.e.now x c.args.first c.args.end _ c.requires.some (subst (λ (n : ℕ). Picked min_z c.args.s.now c.args.e.now x c.args.first n (to_z w32 c.loop-i.least-bits)) last (c.loop-i.invariant.1.1.0 x h));
+      greatest = λ x h. picked_all max_z greatest_absorbs c.args.s.now c.args.e.now x c.args.first c.args.end _ c.requires.some (subst (λ (n : ℕ). Picked max_z c.args.s.now c.args.e.now x c.args.first n (to_z w32 c.loop-i.greatest-bits)) last (c.loop-i.invariant.1.1.1 x h));
     }
