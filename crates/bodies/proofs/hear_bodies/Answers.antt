@@ -70,7 +70,7 @@ loop-i-init c =
     let few : (c.args.m ≤ 256) × (c.args.n ≤ 256) =
         ((known).0.few, (known).1.few) in
     let begun : Going (3840 * c.next_row-i.result) (queries_of c.args.w (body c.args.m c.args.a0.now c.args.a1.now) (body c.args.n c.args.b0.now c.args.b1.now))
-    (each_left c.args.m (λ c.next_row-i.result. row_queries c.args.w (positions c.args.a0.now c.args.a1.now) (positions c.args.b0.now c.args.b1.now) c.next_row-i.result c.args.n) c.next_row-i.result) c.args.queue.now c.args.queue.now (Clear 0) c.counted-sofar.result =
+    (each_left c.args.m (λ x. row_queries c.args.w (positions c.args.a0.now c.args.a1.now) (positions c.args.b0.now c.args.b1.now) x c.args.n) c.next_row-i.result) c.args.queue.now c.args.queue.now (Clear 0) c.counted-sofar.result =
         let t = all_to_hear _ _ _ _ c.requires.to_walk.none c.requires.zero in
     let e : 15 * c.args.n * c.next_row-i.result ≡ 15 * c.args.n * (c.next_row-i.result - 0) = let z : c.next_row-i.result ≡ c.next_row-i.result - 0 = omega arith in ap (λ (x : ℕ). 15 * c.args.n * x) z in
     passed_over c.args.m (15 * c.args.n) _ _ _ _ _ (bodies_of c.args.w c.args.m c.args.a0.now c.args.a1.now c.args.abounds.now c.args.n c.args.b0.now c.args.b1.now c.args.bbounds.now _ c.requires.to_walk.of_a_lem c.requires.to_walk.of_b_lem) t.goes c.next_row-i.ensures e c.counted-sofar.ensures _ (omega (arith, rows_most c.args.n c.next_row-i.result (few).1))
@@ -85,7 +85,7 @@ hear_row-row-requires c =
     let few : (c.args.m ≤ 256) × (c.args.n ≤ 256) =
         ((known).0.few, (known).1.few) in
     let begun : Going (3840 * c.next_row-i.result) (queries_of c.args.w (body c.args.m c.args.a0.now c.args.a1.now) (body c.args.n c.args.b0.now c.args.b1.now))
-    (each_left c.args.m (λ c.next_row-i.result. row_queries c.args.w (positions c.args.a0.now c.args.a1.now) (positions c.args.b0.now c.args.b1.now) c.next_row-i.result c.args.n) c.next_row-i.result) c.args.queue.now c.args.queue.now (Clear 0) c.counted-sofar.result =
+    (each_left c.args.m (λ x. row_queries c.args.w (positions c.args.a0.now c.args.a1.now) (positions c.args.b0.now c.args.b1.now) x c.args.n) c.next_row-i.result) c.args.queue.now c.args.queue.now (Clear 0) c.counted-sofar.result =
         let t = all_to_hear _ _ _ _ c.requires.to_walk.none c.requires.zero in
     let e : 15 * c.args.n * c.next_row-i.result ≡ 15 * c.args.n * (c.next_row-i.result - 0) = let z : c.next_row-i.result ≡ c.next_row-i.result - 0 = omega arith in ap (λ (x : ℕ). 15 * c.args.n * x) z in
     passed_over c.args.m (15 * c.args.n) _ _ _ _ _ (bodies_of c.args.w c.args.m c.args.a0.now c.args.a1.now c.args.abounds.now c.args.n c.args.b0.now c.args.b1.now c.args.bbounds.now _ c.requires.to_walk.of_a_lem c.requires.to_walk.of_b_lem) t.goes c.next_row-i.ensures e c.counted-sofar.ensures _ (omega (arith, rows_most c.args.n c.next_row-i.result (few).1))
@@ -113,7 +113,7 @@ returns-then-is_over c =
     let few : (c.args.m ≤ 256) × (c.args.n ≤ 256) =
         ((known).0.few, (known).1.few) in
     let begun : Going (3840 * c.next_row-i.result) (queries_of c.args.w (body c.args.m c.args.a0.now c.args.a1.now) (body c.args.n c.args.b0.now c.args.b1.now))
-    (each_left c.args.m (λ c.next_row-i.result. row_queries c.args.w (positions c.args.a0.now c.args.a1.now) (positions c.args.b0.now c.args.b1.now) c.next_row-i.result c.args.n) c.next_row-i.result) c.args.queue.now c.args.queue.now (Clear 0) c.counted-sofar.result =
+    (each_left c.args.m (λ x. row_queries c.args.w (positions c.args.a0.now c.args.a1.now) (positions c.args.b0.now c.args.b1.now) x c.args.n) c.next_row-i.result) c.args.queue.now c.args.queue.now (Clear 0) c.counted-sofar.result =
         let t = all_to_hear _ _ _ _ c.requires.to_walk.none c.requires.zero in
     let e : 15 * c.args.n * c.next_row-i.result ≡ 15 * c.args.n * (c.next_row-i.result - 0) = let z : c.next_row-i.result ≡ c.next_row-i.result - 0 = omega arith in ap (λ (x : ℕ). 15 * c.args.n * x) z in
     passed_over c.args.m (15 * c.args.n) _ _ _ _ _ (bodies_of c.args.w c.args.m c.args.a0.now c.args.a1.now c.args.abounds.now c.args.n c.args.b0.now c.args.b1.now c.args.bbounds.now _ c.requires.to_walk.of_a_lem c.requires.to_walk.of_b_lem) t.goes c.next_row-i.ensures e c.counted-sofar.ensures _ (omega (arith, rows_most c.args.n c.next_row-i.result (few).1))
@@ -156,7 +156,7 @@ counted-sofar-requires-in-loop-i c =
     let few : (c.args.m ≤ 256) × (c.args.n ≤ 256) =
         ((known).0.few, (known).1.few) in
     let begun : Going (3840 * c.next_row-i.result) (queries_of c.args.w (body c.args.m c.args.a0.now c.args.a1.now) (body c.args.n c.args.b0.now c.args.b1.now))
-    (each_left c.args.m (λ c.next_row-i.result. row_queries c.args.w (positions c.args.a0.now c.args.a1.now) (positions c.args.b0.now c.args.b1.now) c.next_row-i.result c.args.n) c.next_row-i.result) c.args.queue.now c.args.queue.now (Clear 0) c.counted-sofar.result =
+    (each_left c.args.m (λ x. row_queries c.args.w (positions c.args.a0.now c.args.a1.now) (positions c.args.b0.now c.args.b1.now) x c.args.n) c.next_row-i.result) c.args.queue.now c.args.queue.now (Clear 0) c.counted-sofar.result =
         let t = all_to_hear _ _ _ _ c.requires.to_walk.none c.requires.zero in
     let e : 15 * c.args.n * c.next_row-i.result ≡ 15 * c.args.n * (c.next_row-i.result - 0) = let z : c.next_row-i.result ≡ c.next_row-i.result - 0 = omega arith in ap (λ (x : ℕ). 15 * c.args.n * x) z in
     passed_over c.args.m (15 * c.args.n) _ _ _ _ _ (bodies_of c.args.w c.args.m c.args.a0.now c.args.a1.now c.args.abounds.now c.args.n c.args.b0.now c.args.b1.now c.args.bbounds.now _ c.requires.to_walk.of_a_lem c.requires.to_walk.of_b_lem) t.goes c.next_row-i.ensures e c.counted-sofar.ensures _ (omega (arith, rows_most c.args.n c.next_row-i.result (few).1))
@@ -198,7 +198,7 @@ returns c =
     let few : (c.args.m ≤ 256) × (c.args.n ≤ 256) =
         ((known).0.few, (known).1.few) in
     let begun : Going (3840 * c.next_row-i.result) (queries_of c.args.w (body c.args.m c.args.a0.now c.args.a1.now) (body c.args.n c.args.b0.now c.args.b1.now))
-    (each_left c.args.m (λ c.next_row-i.result. row_queries c.args.w (positions c.args.a0.now c.args.a1.now) (positions c.args.b0.now c.args.b1.now) c.next_row-i.result c.args.n) c.next_row-i.result) c.args.queue.now c.args.queue.now (Clear 0) c.counted-sofar.result =
+    (each_left c.args.m (λ x. row_queries c.args.w (positions c.args.a0.now c.args.a1.now) (positions c.args.b0.now c.args.b1.now) x c.args.n) c.next_row-i.result) c.args.queue.now c.args.queue.now (Clear 0) c.counted-sofar.result =
         let t = all_to_hear _ _ _ _ c.requires.to_walk.none c.requires.zero in
     let e : 15 * c.args.n * c.next_row-i.result ≡ 15 * c.args.n * (c.next_row-i.result - 0) = let z : c.next_row-i.result ≡ c.next_row-i.result - 0 = omega arith in ap (λ (x : ℕ). 15 * c.args.n * x) z in
     passed_over c.args.m (15 * c.args.n) _ _ _ _ _ (bodies_of c.args.w c.args.m c.args.a0.now c.args.a1.now c.args.abounds.now c.args.n c.args.b0.now c.args.b1.now c.args.bbounds.now _ c.requires.to_walk.of_a_lem c.requires.to_walk.of_b_lem) t.goes c.next_row-i.ensures e c.counted-sofar.ensures _ (omega (arith, rows_most c.args.n c.next_row-i.result (few).1))

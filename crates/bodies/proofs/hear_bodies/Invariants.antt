@@ -25,7 +25,7 @@ abbrev pub invariant-loop-i : goal.invariant-loop-i
 invariant-loop-i l =
     (l.initial.i ≤ l.i)
     × ((l.i ≤ l.m)
-    × (Going (3840 * (l.i - l.initial.i)) (each_left l.m (λ l.i. row_queries l.w (positions l.a0 l.a1) (positions l.b0 l.b1) l.i l.n) l.initial.i) (each_left l.m (λ l.i. row_queries l.w (positions l.a0 l.a1) (positions l.b0 l.b1) l.i l.n) l.i) l.initial.queue l.queue l.initial.sofar l.sofar
+    × (Going (3840 * (l.i - l.initial.i)) (each_left l.m (λ x. row_queries l.w (positions l.a0 l.a1) (positions l.b0 l.b1) x l.n) l.initial.i) (each_left l.m (λ x. row_queries l.w (positions l.a0 l.a1) (positions l.b0 l.b1) x l.n) l.i) l.initial.queue l.queue l.initial.sofar l.sofar
     × (is_over l.sofar ≡ false)))
 
 abbrev pub decreases-loop-i : goal.decreases-loop-i

@@ -38,7 +38,7 @@ counted-sofar-requires c = omega (arith, c.next_near-j.ensures.most, c.requires.
 pub loop-j-init : goal.loop-j-init
 loop-j-init c =
     let begun : Going (15 * c.next_near-j.result) (row_queries c.args.w (positions c.args.a0.now c.args.a1.now) (positions c.args.b0.now c.args.b1.now) c.args.i c.args.n)
-    (each_left c.args.n (λ c.next_near-j.result. pair_queries c.args.w (positions c.args.a0.now c.args.a1.now) (positions c.args.b0.now c.args.b1.now) c.args.i c.next_near-j.result) c.next_near-j.result) c.args.queue.now c.args.queue.now c.args.first c.counted-sofar.result =
+    (each_left c.args.n (λ x. pair_queries c.args.w (positions c.args.a0.now c.args.a1.now) (positions c.args.b0.now c.args.b1.now) c.args.i x) c.next_near-j.result) c.args.queue.now c.args.queue.now c.args.first c.counted-sofar.result =
         let e : 15 * c.next_near-j.result ≡ 15 * (c.next_near-j.result - 0) = omega arith in
     passed_over c.args.n 15 _ _ _ _ _ (row_of c.args.w c.args.a0.now c.args.a1.now c.args.b0.now c.args.b1.now c.args.i c.args.n _ c.reach_of-reach.ensures) c.requires.to_hear.goes c.next_near-j.ensures e c.counted-sofar.ensures _ (omega arith) (going_none 3840 _ _ _ _ (each_start _ _) c.requires.to_hear) in
     let g = begun in
@@ -48,7 +48,7 @@ loop-j-init c =
 pub hear_pair-more-requires : goal.hear_pair-more-requires
 hear_pair-more-requires c =
     let begun : Going (15 * c.next_near-j.result) (row_queries c.args.w (positions c.args.a0.now c.args.a1.now) (positions c.args.b0.now c.args.b1.now) c.args.i c.args.n)
-    (each_left c.args.n (λ c.next_near-j.result. pair_queries c.args.w (positions c.args.a0.now c.args.a1.now) (positions c.args.b0.now c.args.b1.now) c.args.i c.next_near-j.result) c.next_near-j.result) c.args.queue.now c.args.queue.now c.args.first c.counted-sofar.result =
+    (each_left c.args.n (λ x. pair_queries c.args.w (positions c.args.a0.now c.args.a1.now) (positions c.args.b0.now c.args.b1.now) c.args.i x) c.next_near-j.result) c.args.queue.now c.args.queue.now c.args.first c.counted-sofar.result =
         let e : 15 * c.next_near-j.result ≡ 15 * (c.next_near-j.result - 0) = omega arith in
     passed_over c.args.n 15 _ _ _ _ _ (row_of c.args.w c.args.a0.now c.args.a1.now c.args.b0.now c.args.b1.now c.args.i c.args.n _ c.reach_of-reach.ensures) c.requires.to_hear.goes c.next_near-j.ensures e c.counted-sofar.ensures _ (omega arith) (going_none 3840 _ _ _ _ (each_start _ _) c.requires.to_hear) in
     record {
@@ -66,7 +66,7 @@ shape_of-queue-then-is_over c = ap length (c.hear_pair-more.ensures.kept ∙ c.l
 pub returns-then-is_over : goal.returns-then-is_over
 returns-then-is_over c =
     let begun : Going (15 * c.next_near-j.result) (row_queries c.args.w (positions c.args.a0.now c.args.a1.now) (positions c.args.b0.now c.args.b1.now) c.args.i c.args.n)
-    (each_left c.args.n (λ c.next_near-j.result. pair_queries c.args.w (positions c.args.a0.now c.args.a1.now) (positions c.args.b0.now c.args.b1.now) c.args.i c.next_near-j.result) c.next_near-j.result) c.args.queue.now c.args.queue.now c.args.first c.counted-sofar.result =
+    (each_left c.args.n (λ x. pair_queries c.args.w (positions c.args.a0.now c.args.a1.now) (positions c.args.b0.now c.args.b1.now) c.args.i x) c.next_near-j.result) c.args.queue.now c.args.queue.now c.args.first c.counted-sofar.result =
         let e : 15 * c.next_near-j.result ≡ 15 * (c.next_near-j.result - 0) = omega arith in
     passed_over c.args.n 15 _ _ _ _ _ (row_of c.args.w c.args.a0.now c.args.a1.now c.args.b0.now c.args.b1.now c.args.i c.args.n _ c.reach_of-reach.ensures) c.requires.to_hear.goes c.next_near-j.ensures e c.counted-sofar.ensures _ (omega arith) (going_none 3840 _ _ _ _ (each_start _ _) c.requires.to_hear) in
     going_over _ 3840 _ _ _ _ _ _ (going_then (begun) (going_more (15 * (c.loop-j.j - c.next_near-j.result)) 15 _ _ _ _ _ _ _ _ c.loop-j.invariant.1.1.0 (each_next _ _ c.loop-j.j (omega arith)) (15 * (c.loop-j.j - c.next_near-j.result) + 15) (omega arith) _ _ c.hear_pair-more.ensures))
@@ -92,7 +92,7 @@ overflow_mul-near c =
 pub counted-sofar-requires-in-loop-j : goal.counted-sofar-requires-in-loop-j
 counted-sofar-requires-in-loop-j c =
     let begun : Going (15 * c.next_near-j.result) (row_queries c.args.w (positions c.args.a0.now c.args.a1.now) (positions c.args.b0.now c.args.b1.now) c.args.i c.args.n)
-    (each_left c.args.n (λ c.next_near-j.result. pair_queries c.args.w (positions c.args.a0.now c.args.a1.now) (positions c.args.b0.now c.args.b1.now) c.args.i c.next_near-j.result) c.next_near-j.result) c.args.queue.now c.args.queue.now c.args.first c.counted-sofar.result =
+    (each_left c.args.n (λ x. pair_queries c.args.w (positions c.args.a0.now c.args.a1.now) (positions c.args.b0.now c.args.b1.now) c.args.i x) c.next_near-j.result) c.args.queue.now c.args.queue.now c.args.first c.counted-sofar.result =
         let e : 15 * c.next_near-j.result ≡ 15 * (c.next_near-j.result - 0) = omega arith in
     passed_over c.args.n 15 _ _ _ _ _ (row_of c.args.w c.args.a0.now c.args.a1.now c.args.b0.now c.args.b1.now c.args.i c.args.n _ c.reach_of-reach.ensures) c.requires.to_hear.goes c.next_near-j.ensures e c.counted-sofar.ensures _ (omega arith) (going_none 3840 _ _ _ _ (each_start _ _) c.requires.to_hear) in
     let g = going_then (begun) c.loop-j.invariant.1.1.0 in
@@ -122,7 +122,7 @@ shape_of-queue c = ap length c.loop-j.invariant.1.1.0.kept
 pub returns : goal.returns
 returns c =
     let begun : Going (15 * c.next_near-j.result) (row_queries c.args.w (positions c.args.a0.now c.args.a1.now) (positions c.args.b0.now c.args.b1.now) c.args.i c.args.n)
-    (each_left c.args.n (λ c.next_near-j.result. pair_queries c.args.w (positions c.args.a0.now c.args.a1.now) (positions c.args.b0.now c.args.b1.now) c.args.i c.next_near-j.result) c.next_near-j.result) c.args.queue.now c.args.queue.now c.args.first c.counted-sofar.result =
+    (each_left c.args.n (λ x. pair_queries c.args.w (positions c.args.a0.now c.args.a1.now) (positions c.args.b0.now c.args.b1.now) c.args.i x) c.next_near-j.result) c.args.queue.now c.args.queue.now c.args.first c.counted-sofar.result =
         let e : 15 * c.next_near-j.result ≡ 15 * (c.next_near-j.result - 0) = omega arith in
     passed_over c.args.n 15 _ _ _ _ _ (row_of c.args.w c.args.a0.now c.args.a1.now c.args.b0.now c.args.b1.now c.args.i c.args.n _ c.reach_of-reach.ensures) c.requires.to_hear.goes c.next_near-j.ensures e c.counted-sofar.ensures _ (omega arith) (going_none 3840 _ _ _ _ (each_start _ _) c.requires.to_hear) in
     going_all _ 3840 _ _ _ _ _ _ (going_then (begun) c.loop-j.invariant.1.1.0) (each_end _ _ c.loop-j.j (omega arith)) (omega (arith, c.requires.count, c.loop-j.invariant.0))

@@ -23,7 +23,7 @@ abbrev pub invariant-loop-j : goal.invariant-loop-j
 invariant-loop-j l =
     (l.initial.j ≤ l.j)
     × ((l.j ≤ l.n)
-    × (Going (15 * (l.j - l.initial.j)) (each_left l.n (λ l.j. pair_queries l.w (positions l.a0 l.a1) (positions l.b0 l.b1) l.i l.j) l.initial.j) (each_left l.n (λ l.j. pair_queries l.w (positions l.a0 l.a1) (positions l.b0 l.b1) l.i l.j) l.j) l.initial.queue l.queue l.initial.sofar l.sofar
+    × (Going (15 * (l.j - l.initial.j)) (each_left l.n (λ x. pair_queries l.w (positions l.a0 l.a1) (positions l.b0 l.b1) l.i x) l.initial.j) (each_left l.n (λ x. pair_queries l.w (positions l.a0 l.a1) (positions l.b0 l.b1) l.i x) l.j) l.initial.queue l.queue l.initial.sofar l.sofar
     × (is_over l.sofar ≡ false)))
 
 abbrev pub decreases-loop-j : goal.decreases-loop-j

@@ -10,7 +10,7 @@ use Rattle.bodies.proofs.asking.points_of.Goals as goal
 -- `bodies::asking::points_of` meets its contract: what is read is what is written. Assumes nothing.
 -- a field that is read is the number that it holds
 back : (z : ℤ) → mag z < 2 ^ 31 → to_z w32 (of_z w32 z) ≡ z
-back z h = to_z-of_z (record { sfits = h })
+back z h = to_z-of_z {w = w32} (record { sfits = h })
 
 pub returns : goal.returns
 returns c =
