@@ -1,12 +1,11 @@
 -- Between what two bodies reach on an axis: where their spans are further apart than the separation, every query between them misses over the whole cube.
-use Rattle.std.specs.Prelude.{◌≡◌, refl, Bool, true, false, ◌&&◌, [], ◌∷◌, ℕ, ◌+◌, ◌-◌, ℤ, pos, neg_ℤ, ◌+ℤ◌, ◌-ℤ◌, ◌≤ℤ◌, ◌<ℤ◌}
+use Rattle.std.specs.Prelude.{◌≡◌, refl, Bool, true, false, ◌&&◌, [], ◌∷◌, ℕ, ℤ, pos, neg_ℤ, ◌+ℤ◌, ◌-ℤ◌, ◌≤ℤ◌, ◌<ℤ◌}
 use Rattle.std.proofs.Common.{sym, ap, ◌∙◌, subst}
 use Rattle.std.specs.Int.Signed.{le_z, ≤ℤ_refl}
 use Rattle.whole.specs.Defs.{min_z, max_z}
 use Rattle.whole.specs.View.{minus_view, neg_up, neg_dn, zed}
 use Rattle.whole.specs.Order.{≤ℤ_trans, +ℤ_mono, min_le, le_max, min_pick, max_pick, lt_le_z}
 use Rattle.whole.specs.Ring.{var, num, ◌:+◌, ◌:-◌, ring}
-use Rattle.rules.specs.Bodies.{face, edges}
 use Rattle.kernel.specs.declared.Kernel.{Kernel}
 use Rattle.gap.specs.declared.span.Span.{Span}
 use Rattle.gap.specs.Corners.{meets, joined}

@@ -1,12 +1,12 @@
 -- Every query checked in one pass over the coordinates (`one_pass`), which is R-6's plain rule (`one_pass_lem`).
 -- Assumes nothing.
-use Prim.Native.Nat.{ℕ, zero, suc, ◌*◌, ◌≤◌, ◌<◌}
-use Rattle.std.specs.Prelude.{◌≡◌, Bool, ◌&&◌, length, leb, eqb}
+use Prim.Native.Nat.{ℕ, zero, suc, ◌<◌}
+use Rattle.std.specs.Prelude.{◌≡◌, Bool, ◌&&◌}
 use Rattle.std.proofs.Math.Path.{refl, ap}
-use Rattle.std.proofs.Common.{sym, ◌∙◌, arith, leb-true, eqb-true}
+use Rattle.std.proofs.Common.{sym, ◌∙◌, arith}
 use Rattle.std.proofs.Math.Bool.{true, false, cond, and-eq-true_iff}
 use Rattle.rules.specs.declared.Terms.{Terms}
-use Rattle.rules.specs.Numbers.{limits_of, is_coordinate, between}
+use Rattle.rules.specs.Numbers.{limits_of, is_coordinate}
 use Rattle.rules.specs.Refusals.{every, or_else, search_refusal}
 use Rattle.rules.specs.Bodies.{Body, A1, B1, B2, B3, is_body, face, fifteen, ask_of, asked_from, each_from, queries_of, first_refused, body_refusal}
 use Rattle.bounds.specs.Keeping.{Known, known}

@@ -12,7 +12,7 @@ use Rattle.rules.specs.Bounds.{blocks}
 use Rattle.gap.specs.declared.span.Span.{Span}
 use Rattle.bounds.specs.declared.reach.Reach.{Reach}
 use Rattle.bounds.specs.Reach.{body, reach_at, on_reach}
-use Rattle.bounds.specs.Block.{Inside, InBlock, reach_of_block, inside_block}
+use Rattle.bounds.specs.Block.{Inside, InBlock, inside_block}
 use Rattle.bounds.specs.Lists.{lent_span, BoundIs, length_bounds, bound_reaches, block_before}
 use Rattle.bodies.specs.Walk.{Lent}
 use Rattle.bodies.specs.Between.{Further, over, under}

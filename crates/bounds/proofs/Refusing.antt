@@ -1,13 +1,12 @@
 -- The refusals of a body's bounds and of a triangle's replacing, row by row. Assumes nothing.
 use Prim.Native.Nat.{ℕ, zero, suc, ◌*◌}
-use native.Mathlib.Omega.{arith}
 use mathlib.Core.Path.{◌≡◌, refl}
 use mathlib.Core.Bool.{Bool, true, false, not, cond, ◌&&◌}
-use mathlib.Core.List.{List, [], ◌∷◌}
+use mathlib.Core.List.{List}
 use lib.IntN.{ℤ}
 use lib.Dec.{ltb, eqb}
 use lib.ListN.{length}
-use Rattle.rules.specs.QueryFile.{is_edition, no_edition, put_unless}
+use Rattle.rules.specs.QueryFile.{is_edition, put_unless}
 use Rattle.rules.specs.Refusals.{first, or_else}
 use Rattle.rules.specs.Bodies.{Body, is_body}
 use Rattle.rules.specs.Bounds.{blocks, are_coordinates, bounds_refusal, are_in_block, replaced, block_of, replace_refusal}

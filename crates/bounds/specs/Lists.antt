@@ -8,7 +8,7 @@ use Rattle.std.proofs.Common.{sym, subst, ◌∙◌, inl, inr, eq-or-lt_of_le, l
 use Rattle.std.proofs.Math.Path.{ap, ap₂}
 use Rattle.std.proofs.Math.Bool.{and-eq-true_iff}
 use mathlib.Core.List.{List, [], ◌∷◌, ◌++◌}
-use Prim.Native.Nat.{ℕ, zero, suc, ◌+◌, ◌-◌, ◌*◌, ◌≤◌, ◌<◌}
+use Prim.Native.Nat.{ℕ, zero, suc, ◌+◌, ◌*◌, ◌≤◌, ◌<◌}
 use native.Mathlib.Omega.{arith}
 use Rattle.std.specs.Int.Signed.{le_z, ≤ℤ_refl}
 use Rattle.std.proofs.Math.ListN.{take, get_or-append}

@@ -1,6 +1,6 @@
 -- A pair given in numbers: each refusal in its place. Assumes nothing.
 use Prim.Native.Nat.{ℕ, ◌≤◌, ◌<◌}
-use mathlib.Core.Path.{◌≡◌, refl, sym, ap, ◌∙◌}
+use mathlib.Core.Path.{◌≡◌, refl, ap, ◌∙◌}
 use mathlib.Core.Bool.{Bool, true, false, cond}
 use mathlib.Core.List.{List}
 use borrow.Author.Tests.{lt-ltb, le-ltb}
@@ -10,7 +10,7 @@ use lib.ListN.{length}
 use Rattle.rules.specs.declared.Record.{Record}
 use Rattle.rules.specs.declared.Wrote.{Wrote}
 use Rattle.rules.specs.QueryFile.{is_edition, is_wide, record_bytes, write_refusal, put_unless, Written}
-use Rattle.rules.specs.Refusals.{first, or_else}
+use Rattle.rules.specs.Refusals.{first}
 use Rattle.answers.specs.Pair.{pair_refusal}
 use Rattle.controller.specs.Copying.{number_of}
 use Rattle.controller.specs.Given.{range_of, write_given_refusal, Writes}

@@ -1,5 +1,5 @@
 -- F at a cell's corners is within 3·2^61, and the least is at most the greatest.
-use Rattle.std.specs.Prelude.{◌≡◌, ℕ, ◌+◌, ◌*◌, ◌-◌, ◌/◌, ◌^◌, ◌≤◌, ◌<◌, ℤ, pos, nat_abs, ◌+ℤ◌, ◌*ℤ◌, ◌≤ℤ◌}
+use Rattle.std.specs.Prelude.{◌≡◌, ℕ, ◌+◌, ◌*◌, ◌-◌, ◌^◌, ◌≤◌, ◌<◌, ℤ, pos, ◌+ℤ◌, ◌*ℤ◌, ◌≤ℤ◌}
 use Rattle.std.proofs.Common.{sym, ap, ◌∙◌, subst, arith, add-mul, mul-le-mul_right, mul-pos, div-lt_iff_lt-mul, pow-add, SFits}
 use Rattle.std.proofs.Math.Nat.{max-le}
 use Rattle.std.specs.Int.Signed.{le_z}
@@ -9,12 +9,12 @@ use Rattle.whole.specs.Order.{≤ℤ_trans, min_le, le_max, min_pick, size_of_di
 use Rattle.whole.specs.Within.{Within, within_add, within_mul, within_pos, within_more, fits}
 use Rattle.kernel.specs.declared.Kernel.{Kernel}
 use Rattle.kernel.specs.declared.Pair.{Pair}
-use Rattle.kernel.specs.Ranges.{Held, Small}
+use Rattle.kernel.specs.Ranges.{Small}
 use Rattle.gap.specs.declared.cell.Cell.{Cell}
 use Rattle.gap.specs.declared.span.Moment.{Moment}
-use Rattle.gap.specs.Corners.{unit_of, value, value_at, moment_of, span_at, over, beyond, round_up_by, excess_of, is_narrow}
+use Rattle.gap.specs.Corners.{unit_of, value, value_at, span_at, over, beyond, round_up_by, excess_of, is_narrow}
 use Rattle.gap.specs.Affine.{value_at_lem}
-use Rattle.gap.specs.Steps.{InParts, Over, Fine, SmallSpan, in_parts_lem, blend_within, twice, term_within, span_small, units_most, term_most}
+use Rattle.gap.specs.Steps.{InParts, Over, Fine, SmallSpan, in_parts_lem, blend_within, twice, term_within, span_small, units_most}
 
 abbrev pub gap_most : ℕ
 gap_most = 6_917_529_027_641_081_856

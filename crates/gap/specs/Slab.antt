@@ -22,7 +22,7 @@ use Rattle.gap.specs.declared.span.Span.{Span}
 use Rattle.gap.specs.declared.slab.Edge.{Edge}
 use Rattle.gap.specs.declared.slab.Strip.{Strip}
 use Rattle.gap.specs.declared.slab.Slab.{Slab}
-use Rattle.gap.specs.Corners.{cell_of, unit_of, moment_of, span_at, span_of, joined, span_over, over, meets}
+use Rattle.gap.specs.Corners.{cell_of, unit_of, moment_of, span_at, joined, span_over, meets}
 use Rattle.gap.specs.Affine.{span_over_lem}
 use Rattle.gap.specs.Steps.{InParts, Fine, moment_fine, term_within, unit_most, term_most}
 use Rattle.gap.specs.Bounds.{gap_most, span_within}

@@ -6,7 +6,6 @@
 use Rattle.std.specs.Prelude.{ℕ, zero, suc, ◌+◌, ◌*◌, ◌≤◌, ◌≡◌, refl, Bool, true, ◌&&◌, List, ltb, length}
 use Rattle.std.proofs.Math.Path.{sym, ap}
 use Rattle.std.proofs.Common.{◌∙◌, arith, eq-eqb, length-append}
-use Rattle.rules.specs.Answers.{told}
 use Rattle.rules.specs.QueryFile.{joined, read_from, record_size, record_at, edition_of, file_form, record_count, place_in, place_of, open_cases, open_refusal, trailer_bytes}
 use Rattle.rules.specs.AnswerFile.{Entry, told_at, entry_at, answer_form, word_refusal}
 use Rattle.refusals.specs.Cases.{not_due}

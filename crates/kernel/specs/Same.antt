@@ -1,5 +1,5 @@
 -- The kernel form is that of equations (1) and (2), and a pair made of a record's kernels asks what the record asks.
-use Rattle.std.specs.Prelude.{◌≡◌, Bool, List, [], ◌∷◌, ℕ, ◌+◌, ◌*◌, ℤ, pos}
+use Rattle.std.specs.Prelude.{◌≡◌, Bool, List, [], ◌∷◌, ℕ, ◌+◌, ℤ, pos}
 use Rattle.std.proofs.Math.Bool.{true, false}
 use Rattle.whole.specs.Ring.{Ex, var, ◌:+◌, ◌:*◌, ◌:-◌, ring}
 use Rattle.rules.specs.declared.Axis.{Axis}

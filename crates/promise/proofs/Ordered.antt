@@ -1,5 +1,5 @@
 -- What specs/Order.antt states, of every level that a search comes to.
-use mathlib.Core.Path.{◌≡◌, ap, subst}
+use mathlib.Core.Path.{ap, subst}
 use mathlib.Core.Bool.{false}
 use mathlib.Core.List.{List, [], ◌∷◌}
 use Prim.Native.Nat.{ℕ, suc}

@@ -6,19 +6,18 @@
 --     file-opens                  a query file opens to its edition and to its records
 --     file-fetch, file-past       record k is the k-th of the list, beside its own refusal; past the last there is none
 -- The first five of every form, the others of every edition of the query file. Assumes nothing.
-use Rattle.std.specs.Prelude.{ℕ, zero, suc, ◌+◌, ◌-◌, ◌*◌, ◌≤◌, ◌<◌, ◌≡◌, Bool, true, false, cond, ◌||◌, eqb}
+use Rattle.std.specs.Prelude.{ℕ, ◌+◌, ◌-◌, ◌*◌, ◌≤◌, ◌<◌, ◌≡◌, Bool, true, false, cond, ◌||◌, eqb}
 use Rattle.std.proofs.Math.Path.{refl, sym, ap}
 use Rattle.std.proofs.Common.{◌∙◌, eq-eqb, eqb-true, le-ltb, drop-drop}
-use mathlib.Core.List.{List, [], ◌∷◌, ◌++◌, append_assoc, append-nil}
+use mathlib.Core.List.{List, [], ◌++◌, append_assoc, append-nil}
 use native.Mathlib.Omega.{arith}
 use Rattle.std.proofs.Math.ListN.{length, get_or, take, drop, length-append, drop_of_length-le}
 use Rattle.std.proofs.Math.Seq.{get_or-append-add, take_at, drop_at, drop-append-add, drop-append_seam}
 use Rattle.rules.specs.declared.Record.{Record}
 use Rattle.rules.specs.declared.Form.{Form}
-use Rattle.rules.specs.declared.Opened.{Opened}
 use Rattle.rules.specs.declared.Opened.TheVariants.{Records}
 use Rattle.rules.specs.Refusals.{first, record_refusal}
-use Rattle.rules.specs.QueryFile.{word, word_bytes, stands, is_edition, is_wide, record_size, record_at, record_bytes, query_form, edition_for, edition_of, file_form, edition_bytes, trailer_bytes, joined, read_from, form_bytes, file_bytes, open_refusal, open_unless, opened, no_record, fetch_unless, fetched, put}
+use Rattle.rules.specs.QueryFile.{word, word_bytes, stands, is_edition, record_bytes, query_form, edition_for, edition_of, file_form, edition_bytes, trailer_bytes, joined, read_from, form_bytes, file_bytes, open_refusal, open_unless, opened, no_record, fetch_unless, fetched, put}
 use Rattle.little.specs.Word.{length_word, word_at}
 use Rattle.little.specs.Stands.{stands_there}
 use Rattle.queries.specs.Sizes.{few_size}

@@ -3,7 +3,7 @@
 --     formed-same     the bytes before the first record, the records that stand there and a trailer are the file; `file_same` of a query file
 --     same-file       no two lists of records give the same bytes: these say the edition, the records and the free bytes before them
 -- The first two of every form, the others of every edition of the query file. Assumes nothing.
-use Rattle.std.specs.Prelude.{ℕ, ◌+◌, ◌-◌, ◌*◌, ◌≤◌, ◌≡◌, true}
+use Rattle.std.specs.Prelude.{ℕ, ◌+◌, ◌*◌, ◌≤◌, ◌≡◌, true}
 use Rattle.std.proofs.Math.Path.{sym, ap}
 use Rattle.std.proofs.Common.{◌∙◌, drop-drop}
 use mathlib.Core.List.{List, ◌++◌}

@@ -1,9 +1,8 @@
 -- Document 02, R-1: an answer file's records, its trailer, and what is refused of them. Each byte and number is worked out by hand.
 use Rattle.std.specs.Prelude.{ℕ, ◌*◌, ◌≡◌, refl, List, [], ◌∷◌, ◌++◌, map, pos, replicate, take}
 use Rattle.rules.specs.declared.Record.{Record}
-use Rattle.rules.specs.declared.Told.{Told}
 use Rattle.rules.specs.Refusals.{first}
-use Rattle.rules.specs.QueryFile.{word, word_bytes, bits, stands, coordinate_bytes, bytes_by, trailer_bytes, joined, form_bytes, file_bytes, open_refusal}
+use Rattle.rules.specs.QueryFile.{word, word_bytes, bits, stands, coordinate_bytes, bytes_by, trailer_bytes, joined, form_bytes, file_bytes}
 use Rattle.rules.specs.AnswerFile.{Entry, told_at, entry_bytes, answer_form, answer_bytes, word_refusal, entry_refusal, read_refusal, same_ids, match_refusal}
 
 -- id, word, t, u, v, excess, count, refusal number

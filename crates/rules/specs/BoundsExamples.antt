@@ -1,6 +1,5 @@
 -- Document 02, R-9: worked examples of the bounds, of the walk's refusals and of replacing, over a leaning triangle S whose fourth corner is 200, 0, 50.
 use Rattle.std.specs.Prelude.{ℕ, zero, suc, ◌+◌, ◌*◌, ◌≡◌, refl, List, [], ◌∷◌, ◌++◌, map, ℤ, pos, ◌+ℤ◌}
-use Rattle.rules.specs.declared.Terms.{Terms}
 use Rattle.rules.specs.declared.BodyAnswer.{BodyAnswer}
 use Rattle.rules.specs.declared.BodyAnswer.TheVariants.{Clear, Refused}
 use Rattle.rules.specs.Gap.{moving, vertex_face, edge_edge, gap_on, negate_from, sided}

@@ -24,7 +24,7 @@ use Rattle.search.specs.declared.First.{First}
 use Rattle.search.specs.declared.First.TheVariants.{Ends as EndsAt, Recorded}
 use Rattle.search.specs.declared.Level.{Level}
 use Rattle.search.specs.declared.Step.TheVariants.{Ends, Goes}
-use Rattle.search.specs.Levels.{OneBox, after_first, NotFull, FirstIs, boxes, Tidy, Fine, CheckIs}
+use Rattle.search.specs.Levels.{OneBox, after_first, FirstIs, boxes, Tidy, Fine, CheckIs}
 use Rattle.search.proofs.Tidying.{tidy_front}
 
 -- ---- a level's first survivor

@@ -1,7 +1,6 @@
 -- Document 01, the end of "Berth examples": what `sweep` prints, byte by byte.
 use Rattle.std.specs.Prelude.{ℕ, zero, suc, ◌+◌, ◌/◌, ◌%◌, cond, List, [], ◌∷◌, ◌++◌, ltb, leb, eqb, length, get_or, drop}
 use Prim.Native.String.{String}
-use Prim.Native.String as String
 use Prim.Native.Char.{code}
 use Rattle.rules.specs.declared.Told.{Told}
 use Rattle.text.specs.declared.Row.{Row}

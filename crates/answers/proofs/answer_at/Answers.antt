@@ -1,6 +1,5 @@
 use Rattle.answers.specs.Eight.{eight}
 use Rattle.answers.specs.Walking.{answered}
-use borrow.Author.Rules.{rules}
 use Rattle.answers.proofs.answer_at.Goals as goal
 
 pub returns : goal.returns

@@ -10,7 +10,6 @@ use Rattle.queries.specs.Held.{Held}
 use Rattle.queries.specs.RoundTrip.{read_back}
 use Rattle.answers.specs.Eight.{eight}
 use Rattle.answers.specs.Walking.{alone, known}
-use borrow.Author.Rules.{rules}
 use Rattle.answers.proofs.answer_record.Goals as goal
 
 -- `answers::answer_record` meets its contract: what is put into the bytes is the record that is read there. Assumes nothing.

@@ -1,11 +1,10 @@
-use Prim.Native.Nat.{◌-◌}
 use mathlib.Core.Path.{refl}
 use native.Mathlib.Omega.{arith}
 use lib.ListN.{length}
 use Rattle.rules.specs.QueryFile.{record_size}
 use Rattle.queries.specs.Sizes.{record_within}
 use Rattle.answers.specs.Eight.{eight}
-use Rattle.answers.specs.Walking.{Walked, walked_none, walked_more, walked_all}
+use Rattle.answers.specs.Walking.{walked_none, walked_more, walked_all}
 use Rattle.answers.proofs.answer_records.Goals as goal
 
 pub loop-i-init : goal.loop-i-init

@@ -1,11 +1,6 @@
 use Prim.Native.Nat.{◌-◌}
-use mathlib.Core.Path.{refl}
-use native.Mathlib.Omega.{arith}
-use lib.ListN.{length}
-use Rattle.rules.specs.QueryFile.{record_size}
-use Rattle.queries.specs.Sizes.{record_within}
 use Rattle.answers.specs.Eight.{eight}
-use Rattle.answers.specs.Walking.{Walked, walked_none, walked_more, walked_all}
+use Rattle.answers.specs.Walking.{Walked}
 use Rattle.answers.proofs.answer_records.Given as goal
 
 -- `answers::answer_records` meets its contract: record after record. Assumes nothing.

@@ -1,6 +1,5 @@
 use mathlib.Core.Path.{sym, ap}
 use Rattle.answers.specs.Step.{is_answered}
-use borrow.Author.Rules.{rules}
 use Rattle.answers.proofs.is_answered.Goals as goal
 
 pub returns-in-Met : goal.returns-in-Met

@@ -1,6 +1,5 @@
 use mathlib.Core.Path.{sym, ap, ◌∙◌}
 use Rattle.rules.specs.Answers.{told}
-use borrow.Author.Rules.{rules}
 use Rattle.answers.proofs.numbers.Goals as goal
 
 pub returns-in-Met : goal.returns-in-Met

@@ -3,7 +3,6 @@ use mathlib.Core.Path.{refl}
 use mathlib.Core.List.{[], ◌∷◌}
 use native.Mathlib.Omega.{arith}
 use Rattle.little.specs.Put.{one_more}
-use borrow.Author.Rules.{rules}
 use Rattle.answers.proofs.write_eight.Goals as goal
 
 pub returns : goal.returns

@@ -1,7 +1,6 @@
 use native.Mathlib.Omega.{arith}
 use lib.ListN.{length-set}
 use Rattle.little.specs.Put.{put4}
-use borrow.Author.Rules.{rules}
 use Rattle.answers.proofs.write_four.Goals as goal
 
 pub bounds-out-at-2 : goal.bounds-out-at-2

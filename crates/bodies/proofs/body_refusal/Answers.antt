@@ -3,8 +3,7 @@ use native.Mathlib.Omega.{arith}
 use Rattle.rules.specs.declared.Record.{Record}
 use Rattle.rules.specs.Refusals.{search_refusal}
 use Rattle.bounds.specs.Reach.{body}
-use Rattle.bodies.proofs.Refusing.{both, turned, no_bodies, first_refused_lem, by_positions, starts_there, ends_there}
-use borrow.Author.Rules.{rules}
+use Rattle.bodies.proofs.Refusing.{both, no_bodies, first_refused_lem, by_positions, starts_there, ends_there}
 use Rattle.bodies.proofs.body_refusal.Goals as goal
 
 pub returns-then-not-bodies : goal.returns-then-not-bodies

@@ -1,8 +1,6 @@
 use Prim.Native.Nat.{ℕ, ◌+◌, ◌*◌, ◌-◌, ◌≤◌, ◌<◌}
 use mathlib.Core.Path.{◌≡◌, refl, sym, ap, ◌∙◌}
-use mathlib.Core.Bool.{false}
 use mathlib.Core.List.{List}
-use borrow.Author.Rules.{rules}
 use native.Mathlib.Omega.{arith}
 use native.Mathlib.Nat.{mul-le-mul_right}
 use lib.IntN.{ℤ}
@@ -31,47 +29,47 @@ bodies_of w m a0 a1 of_a n b0 b1 of_b words f g x l alone none = row_counts w a0
 pub overflow_mul-a_row : goal.overflow_mul-a_row
 overflow_mul-a_row c =
     let known : Known (body c.args.m c.args.a0.now c.args.a1.now) × Known (body c.args.n c.args.b0.now c.args.b1.now) =
-        known_bodies _ _ _ _ c.requires.to_walk.none in
+    known_bodies _ _ _ _ c.requires.to_walk.none in
     let few : (c.args.m ≤ 256) × (c.args.n ≤ 256) =
-        ((known).0.few, (known).1.few) in
+    ((known).0.few, (known).1.few) in
     omega (arith, (few).1)
 
 pub next_row-i-requires : goal.next_row-i-requires
 next_row-i-requires c =
     let known : Known (body c.args.m c.args.a0.now c.args.a1.now) × Known (body c.args.n c.args.b0.now c.args.b1.now) =
-        known_bodies _ _ _ _ c.requires.to_walk.none in
+    known_bodies _ _ _ _ c.requires.to_walk.none in
     let lists : HasBounds c.args.abounds.now c.args.m × HasBounds c.args.bbounds.now c.args.n =
-        let k = known in
+    let k = known in
     (has_bounds c.args.m c.args.a0.now c.args.a1.now c.args.abounds.now k.0.some k.0.few c.requires.to_walk.of_a_lem, has_bounds c.args.n c.args.b0.now c.args.b1.now c.args.bbounds.now k.1.some k.1.few c.requires.to_walk.of_b_lem) in
     (omega arith, lists)
 
 pub overflow_mul-a_row-2 : goal.overflow_mul-a_row-2
 overflow_mul-a_row-2 c =
     let known : Known (body c.args.m c.args.a0.now c.args.a1.now) × Known (body c.args.n c.args.b0.now c.args.b1.now) =
-        known_bodies _ _ _ _ c.requires.to_walk.none in
+    known_bodies _ _ _ _ c.requires.to_walk.none in
     let few : (c.args.m ≤ 256) × (c.args.n ≤ 256) =
-        ((known).0.few, (known).1.few) in
+    ((known).0.few, (known).1.few) in
     let k = few in omega (arith, k.0, c.next_row-i.ensures.most, rows_most c.args.n c.next_row-i.result k.1)
 
 pub counted-sofar-requires : goal.counted-sofar-requires
 unfolding sum_of
 counted-sofar-requires c =
     let known : Known (body c.args.m c.args.a0.now c.args.a1.now) × Known (body c.args.n c.args.b0.now c.args.b1.now) =
-        known_bodies _ _ _ _ c.requires.to_walk.none in
+    known_bodies _ _ _ _ c.requires.to_walk.none in
     let few : (c.args.m ≤ 256) × (c.args.n ≤ 256) =
-        ((known).0.few, (known).1.few) in
+    ((known).0.few, (known).1.few) in
     let k = few in omega (arith, k.0, c.next_row-i.ensures.most, rows_most c.args.n c.next_row-i.result k.1)
 
 pub loop-i-init : goal.loop-i-init
 unfolding is_over
 loop-i-init c =
     let known : Known (body c.args.m c.args.a0.now c.args.a1.now) × Known (body c.args.n c.args.b0.now c.args.b1.now) =
-        known_bodies _ _ _ _ c.requires.to_walk.none in
+    known_bodies _ _ _ _ c.requires.to_walk.none in
     let few : (c.args.m ≤ 256) × (c.args.n ≤ 256) =
-        ((known).0.few, (known).1.few) in
+    ((known).0.few, (known).1.few) in
     let begun : Going (3840 * c.next_row-i.result) (queries_of c.args.w (body c.args.m c.args.a0.now c.args.a1.now) (body c.args.n c.args.b0.now c.args.b1.now))
     (each_left c.args.m (λ x. row_queries c.args.w (positions c.args.a0.now c.args.a1.now) (positions c.args.b0.now c.args.b1.now) x c.args.n) c.next_row-i.result) c.args.queue.now c.args.queue.now (Clear 0) c.counted-sofar.result =
-        let t = all_to_hear _ _ _ _ c.requires.to_walk.none c.requires.zero in
+    let t = all_to_hear _ _ _ _ c.requires.to_walk.none c.requires.zero in
     let e : 15 * c.args.n * c.next_row-i.result ≡ 15 * c.args.n * (c.next_row-i.result - 0) = let z : c.next_row-i.result ≡ c.next_row-i.result - 0 = omega arith in ap (λ (x : ℕ). 15 * c.args.n * x) z in
     passed_over c.args.m (15 * c.args.n) _ _ _ _ _ (bodies_of c.args.w c.args.m c.args.a0.now c.args.a1.now c.args.abounds.now c.args.n c.args.b0.now c.args.b1.now c.args.bbounds.now _ c.requires.to_walk.of_a_lem c.requires.to_walk.of_b_lem) t.goes c.next_row-i.ensures e c.counted-sofar.ensures _ (omega (arith, rows_most c.args.n c.next_row-i.result (few).1))
     (going_none 983040 _ _ _ _ (each_start _ _ ∙ sym (queries_same c.args.w c.args.m c.args.a0.now c.args.a1.now c.args.n c.args.b0.now c.args.b1.now)) t) in
@@ -81,12 +79,12 @@ loop-i-init c =
 pub hear_row-row-requires : goal.hear_row-row-requires
 hear_row-row-requires c =
     let known : Known (body c.args.m c.args.a0.now c.args.a1.now) × Known (body c.args.n c.args.b0.now c.args.b1.now) =
-        known_bodies _ _ _ _ c.requires.to_walk.none in
+    known_bodies _ _ _ _ c.requires.to_walk.none in
     let few : (c.args.m ≤ 256) × (c.args.n ≤ 256) =
-        ((known).0.few, (known).1.few) in
+    ((known).0.few, (known).1.few) in
     let begun : Going (3840 * c.next_row-i.result) (queries_of c.args.w (body c.args.m c.args.a0.now c.args.a1.now) (body c.args.n c.args.b0.now c.args.b1.now))
     (each_left c.args.m (λ x. row_queries c.args.w (positions c.args.a0.now c.args.a1.now) (positions c.args.b0.now c.args.b1.now) x c.args.n) c.next_row-i.result) c.args.queue.now c.args.queue.now (Clear 0) c.counted-sofar.result =
-        let t = all_to_hear _ _ _ _ c.requires.to_walk.none c.requires.zero in
+    let t = all_to_hear _ _ _ _ c.requires.to_walk.none c.requires.zero in
     let e : 15 * c.args.n * c.next_row-i.result ≡ 15 * c.args.n * (c.next_row-i.result - 0) = let z : c.next_row-i.result ≡ c.next_row-i.result - 0 = omega arith in ap (λ (x : ℕ). 15 * c.args.n * x) z in
     passed_over c.args.m (15 * c.args.n) _ _ _ _ _ (bodies_of c.args.w c.args.m c.args.a0.now c.args.a1.now c.args.abounds.now c.args.n c.args.b0.now c.args.b1.now c.args.bbounds.now _ c.requires.to_walk.of_a_lem c.requires.to_walk.of_b_lem) t.goes c.next_row-i.ensures e c.counted-sofar.ensures _ (omega (arith, rows_most c.args.n c.next_row-i.result (few).1))
     (going_none 983040 _ _ _ _ (each_start _ _ ∙ sym (queries_same c.args.w c.args.m c.args.a0.now c.args.a1.now c.args.n c.args.b0.now c.args.b1.now)) t) in
@@ -109,12 +107,12 @@ shape_of-queue-then-is_over c = ap length (c.hear_row-row.ensures.kept ∙ c.loo
 pub returns-then-is_over : goal.returns-then-is_over
 returns-then-is_over c =
     let known : Known (body c.args.m c.args.a0.now c.args.a1.now) × Known (body c.args.n c.args.b0.now c.args.b1.now) =
-        known_bodies _ _ _ _ c.requires.to_walk.none in
+    known_bodies _ _ _ _ c.requires.to_walk.none in
     let few : (c.args.m ≤ 256) × (c.args.n ≤ 256) =
-        ((known).0.few, (known).1.few) in
+    ((known).0.few, (known).1.few) in
     let begun : Going (3840 * c.next_row-i.result) (queries_of c.args.w (body c.args.m c.args.a0.now c.args.a1.now) (body c.args.n c.args.b0.now c.args.b1.now))
     (each_left c.args.m (λ x. row_queries c.args.w (positions c.args.a0.now c.args.a1.now) (positions c.args.b0.now c.args.b1.now) x c.args.n) c.next_row-i.result) c.args.queue.now c.args.queue.now (Clear 0) c.counted-sofar.result =
-        let t = all_to_hear _ _ _ _ c.requires.to_walk.none c.requires.zero in
+    let t = all_to_hear _ _ _ _ c.requires.to_walk.none c.requires.zero in
     let e : 15 * c.args.n * c.next_row-i.result ≡ 15 * c.args.n * (c.next_row-i.result - 0) = let z : c.next_row-i.result ≡ c.next_row-i.result - 0 = omega arith in ap (λ (x : ℕ). 15 * c.args.n * x) z in
     passed_over c.args.m (15 * c.args.n) _ _ _ _ _ (bodies_of c.args.w c.args.m c.args.a0.now c.args.a1.now c.args.abounds.now c.args.n c.args.b0.now c.args.b1.now c.args.bbounds.now _ c.requires.to_walk.of_a_lem c.requires.to_walk.of_b_lem) t.goes c.next_row-i.ensures e c.counted-sofar.ensures _ (omega (arith, rows_most c.args.n c.next_row-i.result (few).1))
     (going_none 983040 _ _ _ _ (each_start _ _ ∙ sym (queries_same c.args.w c.args.m c.args.a0.now c.args.a1.now c.args.n c.args.b0.now c.args.b1.now)) t) in
@@ -128,9 +126,9 @@ overflow_add-i c = omega arith
 pub next_row-near-requires : goal.next_row-near-requires
 next_row-near-requires c =
     let known : Known (body c.args.m c.args.a0.now c.args.a1.now) × Known (body c.args.n c.args.b0.now c.args.b1.now) =
-        known_bodies _ _ _ _ c.requires.to_walk.none in
+    known_bodies _ _ _ _ c.requires.to_walk.none in
     let lists : HasBounds c.args.abounds.now c.args.m × HasBounds c.args.bbounds.now c.args.n =
-        let k = known in
+    let k = known in
     (has_bounds c.args.m c.args.a0.now c.args.a1.now c.args.abounds.now k.0.some k.0.few c.requires.to_walk.of_a_lem, has_bounds c.args.n c.args.b0.now c.args.b1.now c.args.bbounds.now k.1.some k.1.few c.requires.to_walk.of_b_lem) in
     (omega arith, lists)
 
@@ -143,21 +141,21 @@ overflow_sub-near c = omega (arith, c.next_row-near.ensures.later)
 pub overflow_mul-a_row-in-loop-i : goal.overflow_mul-a_row-in-loop-i
 overflow_mul-a_row-in-loop-i c =
     let known : Known (body c.args.m c.args.a0.now c.args.a1.now) × Known (body c.args.n c.args.b0.now c.args.b1.now) =
-        known_bodies _ _ _ _ c.requires.to_walk.none in
+    known_bodies _ _ _ _ c.requires.to_walk.none in
     let few : (c.args.m ≤ 256) × (c.args.n ≤ 256) =
-        ((known).0.few, (known).1.few) in
+    ((known).0.few, (known).1.few) in
     let k = few in
     omega (arith, k.0, c.next_row-near.ensures.most, c.next_row-near.ensures.later, rows_most c.args.n (c.next_row-near.result - (c.loop-i.i + 1)) k.1)
 
 pub counted-sofar-requires-in-loop-i : goal.counted-sofar-requires-in-loop-i
 counted-sofar-requires-in-loop-i c =
     let known : Known (body c.args.m c.args.a0.now c.args.a1.now) × Known (body c.args.n c.args.b0.now c.args.b1.now) =
-        known_bodies _ _ _ _ c.requires.to_walk.none in
+    known_bodies _ _ _ _ c.requires.to_walk.none in
     let few : (c.args.m ≤ 256) × (c.args.n ≤ 256) =
-        ((known).0.few, (known).1.few) in
+    ((known).0.few, (known).1.few) in
     let begun : Going (3840 * c.next_row-i.result) (queries_of c.args.w (body c.args.m c.args.a0.now c.args.a1.now) (body c.args.n c.args.b0.now c.args.b1.now))
     (each_left c.args.m (λ x. row_queries c.args.w (positions c.args.a0.now c.args.a1.now) (positions c.args.b0.now c.args.b1.now) x c.args.n) c.next_row-i.result) c.args.queue.now c.args.queue.now (Clear 0) c.counted-sofar.result =
-        let t = all_to_hear _ _ _ _ c.requires.to_walk.none c.requires.zero in
+    let t = all_to_hear _ _ _ _ c.requires.to_walk.none c.requires.zero in
     let e : 15 * c.args.n * c.next_row-i.result ≡ 15 * c.args.n * (c.next_row-i.result - 0) = let z : c.next_row-i.result ≡ c.next_row-i.result - 0 = omega arith in ap (λ (x : ℕ). 15 * c.args.n * x) z in
     passed_over c.args.m (15 * c.args.n) _ _ _ _ _ (bodies_of c.args.w c.args.m c.args.a0.now c.args.a1.now c.args.abounds.now c.args.n c.args.b0.now c.args.b1.now c.args.bbounds.now _ c.requires.to_walk.of_a_lem c.requires.to_walk.of_b_lem) t.goes c.next_row-i.ensures e c.counted-sofar.ensures _ (omega (arith, rows_most c.args.n c.next_row-i.result (few).1))
     (going_none 983040 _ _ _ _ (each_start _ _ ∙ sym (queries_same c.args.w c.args.m c.args.a0.now c.args.a1.now c.args.n c.args.b0.now c.args.b1.now)) t) in
@@ -172,9 +170,9 @@ loop-i-smaller c = omega (arith, c.next_row-near.ensures.later, c.next_row-near.
 pub loop-i-preserved : goal.loop-i-preserved
 loop-i-preserved c =
     let known : Known (body c.args.m c.args.a0.now c.args.a1.now) × Known (body c.args.n c.args.b0.now c.args.b1.now) =
-        known_bodies _ _ _ _ c.requires.to_walk.none in
+    known_bodies _ _ _ _ c.requires.to_walk.none in
     let few : (c.args.m ≤ 256) × (c.args.n ≤ 256) =
-        ((known).0.few, (known).1.few) in
+    ((known).0.few, (known).1.few) in
     let o = sym c.is_over.ensures ∙ c.if-is_over.false in
     let t = rows_most c.args.n (c.next_row-near.result - (c.loop-i.i + 1)) (few).1 in (
       omega (arith, c.loop-i.invariant.0, c.next_row-near.ensures.later),
@@ -194,12 +192,12 @@ shape_of-queue c = ap length c.loop-i.invariant.1.1.0.kept
 pub returns : goal.returns
 returns c =
     let known : Known (body c.args.m c.args.a0.now c.args.a1.now) × Known (body c.args.n c.args.b0.now c.args.b1.now) =
-        known_bodies _ _ _ _ c.requires.to_walk.none in
+    known_bodies _ _ _ _ c.requires.to_walk.none in
     let few : (c.args.m ≤ 256) × (c.args.n ≤ 256) =
-        ((known).0.few, (known).1.few) in
+    ((known).0.few, (known).1.few) in
     let begun : Going (3840 * c.next_row-i.result) (queries_of c.args.w (body c.args.m c.args.a0.now c.args.a1.now) (body c.args.n c.args.b0.now c.args.b1.now))
     (each_left c.args.m (λ x. row_queries c.args.w (positions c.args.a0.now c.args.a1.now) (positions c.args.b0.now c.args.b1.now) x c.args.n) c.next_row-i.result) c.args.queue.now c.args.queue.now (Clear 0) c.counted-sofar.result =
-        let t = all_to_hear _ _ _ _ c.requires.to_walk.none c.requires.zero in
+    let t = all_to_hear _ _ _ _ c.requires.to_walk.none c.requires.zero in
     let e : 15 * c.args.n * c.next_row-i.result ≡ 15 * c.args.n * (c.next_row-i.result - 0) = let z : c.next_row-i.result ≡ c.next_row-i.result - 0 = omega arith in ap (λ (x : ℕ). 15 * c.args.n * x) z in
     passed_over c.args.m (15 * c.args.n) _ _ _ _ _ (bodies_of c.args.w c.args.m c.args.a0.now c.args.a1.now c.args.abounds.now c.args.n c.args.b0.now c.args.b1.now c.args.bbounds.now _ c.requires.to_walk.of_a_lem c.requires.to_walk.of_b_lem) t.goes c.next_row-i.ensures e c.counted-sofar.ensures _ (omega (arith, rows_most c.args.n c.next_row-i.result (few).1))
     (going_none 983040 _ _ _ _ (each_start _ _ ∙ sym (queries_same c.args.w c.args.m c.args.a0.now c.args.a1.now c.args.n c.args.b0.now c.args.b1.now)) t) in

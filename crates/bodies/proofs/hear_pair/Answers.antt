@@ -1,10 +1,8 @@
-use Prim.Native.Nat.{◌+◌, ◌-◌, ◌≤◌}
-use mathlib.Core.Path.{◌≡◌, refl, sym, ap, ◌∙◌}
-use mathlib.Core.Bool.{false}
-use borrow.Author.Rules.{rules}
+use Prim.Native.Nat.{◌+◌}
+use mathlib.Core.Path.{refl, sym, ap, ◌∙◌}
 use native.Mathlib.Omega.{arith}
 use lib.ListN.{length}
-use Rattle.rules.specs.Bodies.{pair_queries, is_over}
+use Rattle.rules.specs.Bodies.{pair_queries}
 use Rattle.bodies.specs.Walk.{positions}
 use Rattle.bodies.proofs.Walking.{Going, going_none, going_asks, going_more, going_all, going_over, pair_left, pair_next, pair_end}
 use Rattle.bodies.proofs.hear_pair.Goals as goal
@@ -27,7 +25,7 @@ pub shape_of-queue-then-is_over : goal.shape_of-queue-then-is_over
 shape_of-queue-then-is_over c =
     let more : Going (c.loop-k.k + 1) (pair_queries c.args.w (positions c.args.a0.now c.args.a1.now) (positions c.args.b0.now c.args.b1.now) c.args.i c.args.j)
     (pair_left c.args.w (positions c.args.a0.now c.args.a1.now) (positions c.args.b0.now c.args.b1.now) c.args.i c.args.j (c.loop-k.k + 1)) c.args.queue.now c.hear_query-sofar.new.queue c.args.first c.hear_query-sofar.result =
-        going_more _ 1 _ _ _ _ _ _ _ _ c.loop-k.invariant.1.0 (pair_next _ _ _ _ _ c.loop-k.k (omega arith)) _ (omega arith) _ _ c.hear_query-sofar.ensures in
+    going_more _ 1 _ _ _ _ _ _ _ _ c.loop-k.invariant.1.0 (pair_next _ _ _ _ _ c.loop-k.k (omega arith)) _ (omega arith) _ _ c.hear_query-sofar.ensures in
     ap length (more).kept
 
 -- a time of 0 ends it
@@ -35,7 +33,7 @@ pub returns-then-is_over : goal.returns-then-is_over
 returns-then-is_over c =
     let more : Going (c.loop-k.k + 1) (pair_queries c.args.w (positions c.args.a0.now c.args.a1.now) (positions c.args.b0.now c.args.b1.now) c.args.i c.args.j)
     (pair_left c.args.w (positions c.args.a0.now c.args.a1.now) (positions c.args.b0.now c.args.b1.now) c.args.i c.args.j (c.loop-k.k + 1)) c.args.queue.now c.hear_query-sofar.new.queue c.args.first c.hear_query-sofar.result =
-        going_more _ 1 _ _ _ _ _ _ _ _ c.loop-k.invariant.1.0 (pair_next _ _ _ _ _ c.loop-k.k (omega arith)) _ (omega arith) _ _ c.hear_query-sofar.ensures in
+    going_more _ 1 _ _ _ _ _ _ _ _ c.loop-k.invariant.1.0 (pair_next _ _ _ _ _ c.loop-k.k (omega arith)) _ (omega arith) _ _ c.hear_query-sofar.ensures in
     going_over _ 15 _ _ _ _ _ _ (more) (sym c.is_over.ensures ∙ c.if-is_over.true) (omega arith)
 
 pub overflow_add-k : goal.overflow_add-k
@@ -48,7 +46,7 @@ pub loop-k-preserved : goal.loop-k-preserved
 loop-k-preserved c =
     let more : Going (c.loop-k.k + 1) (pair_queries c.args.w (positions c.args.a0.now c.args.a1.now) (positions c.args.b0.now c.args.b1.now) c.args.i c.args.j)
     (pair_left c.args.w (positions c.args.a0.now c.args.a1.now) (positions c.args.b0.now c.args.b1.now) c.args.i c.args.j (c.loop-k.k + 1)) c.args.queue.now c.hear_query-sofar.new.queue c.args.first c.hear_query-sofar.result =
-        going_more _ 1 _ _ _ _ _ _ _ _ c.loop-k.invariant.1.0 (pair_next _ _ _ _ _ c.loop-k.k (omega arith)) _ (omega arith) _ _ c.hear_query-sofar.ensures in
+    going_more _ 1 _ _ _ _ _ _ _ _ c.loop-k.invariant.1.0 (pair_next _ _ _ _ _ c.loop-k.k (omega arith)) _ (omega arith) _ _ c.hear_query-sofar.ensures in
     (omega arith, (more, sym c.is_over.ensures ∙ c.if-is_over.false))
 
 pub shape_of-queue : goal.shape_of-queue

@@ -1,12 +1,9 @@
-use Prim.Native.Nat.{◌+◌, ◌-◌, ◌≤◌}
-use mathlib.Core.Path.{◌≡◌, refl, sym, ap, ◌∙◌}
+use Prim.Native.Nat.{◌-◌, ◌≤◌}
+use mathlib.Core.Path.{◌≡◌}
 use mathlib.Core.Bool.{false}
-use borrow.Author.Rules.{rules}
-use native.Mathlib.Omega.{arith}
-use lib.ListN.{length}
 use Rattle.rules.specs.Bodies.{pair_queries, is_over}
 use Rattle.bodies.specs.Walk.{positions}
-use Rattle.bodies.proofs.Walking.{Going, going_none, going_asks, going_more, going_all, going_over, pair_left, pair_next, pair_end}
+use Rattle.bodies.proofs.Walking.{Going, pair_left}
 use Rattle.bodies.proofs.hear_pair.Given as goal
 
 -- `bodies::hear_pair` meets its contract: query after query. Assumes nothing.

@@ -10,14 +10,13 @@ use Rattle.triangles.specs.Members.{asked, ask_at}
 use Rattle.triangles.specs.InOrder.{capped_none}
 use Rattle.bodies.specs.Walk.{positions}
 use Rattle.bodies.proofs.Walking.{heard_one, not_refused}
-use borrow.Author.Rules.{rules}
 use Rattle.bodies.proofs.hear_query.Goals as goal
 
 pub search_accepted-answer-requires : goal.search_accepted-answer-requires
 unfolding capped
 search_accepted-answer-requires c =
     let asks : capped c.cap_of.result c.query_at-asks.result ≡ capped (cap_of c.args.sofar) (ask_of c.args.w (positions c.args.a0.now c.args.a1.now) (positions c.args.b0.now c.args.b1.now) c.args.i c.args.j (ask_at c.args.k)) =
-        λ i. capped (c.cap_of.ensures i) (c.query_at-asks.ensures 0 0 i) in
+    λ i. capped (c.cap_of.ensures i) (c.query_at-asks.ensures 0 0 i) in
     let words = length c.args.queue.now in
     record {
       none = ap (λ (r : Record). search_refusal r words) (asks) ∙ capped_none (cap_of c.args.sofar) words _ c.requires.to_hear.step (not_refused _ _ c.requires.to_hear.none);
@@ -28,7 +27,7 @@ pub returns : goal.returns
 unfolding capped
 returns c =
     let asks : capped c.cap_of.result c.query_at-asks.result ≡ capped (cap_of c.args.sofar) (ask_of c.args.w (positions c.args.a0.now c.args.a1.now) (positions c.args.b0.now c.args.b1.now) c.args.i c.args.j (ask_at c.args.k)) =
-        λ i. capped (c.cap_of.ensures i) (c.query_at-asks.ensures 0 0 i) in
+    λ i. capped (c.cap_of.ensures i) (c.query_at-asks.ensures 0 0 i) in
     let words = length c.args.queue.now in
     record {
       says = heard_one words c.args.sofar (asked c.args.w (positions c.args.a0.now c.args.a1.now) (positions c.args.b0.now c.args.b1.now) c.args.i c.args.j (1 + c.args.k) (ask_at c.args.k)) _ _ c.requires.to_hear.goes

@@ -1,13 +1,11 @@
-use Prim.Native.Nat.{ℕ, ◌+◌, ◌*◌, ◌-◌, ◌≤◌, ◌<◌}
+use Prim.Native.Nat.{ℕ, ◌+◌, ◌*◌, ◌-◌, ◌<◌}
 use mathlib.Core.Path.{◌≡◌, refl, sym, ap, ◌∙◌}
-use mathlib.Core.Bool.{false}
-use borrow.Author.Rules.{rules}
 use native.Mathlib.Omega.{arith}
 use mathlib.Core.List.{List}
 use lib.IntN.{ℤ}
 use lib.ListN.{length}
 use Rattle.rules.specs.declared.Terms.{Terms}
-use Rattle.rules.specs.Bodies.{pair_queries, is_over}
+use Rattle.rules.specs.Bodies.{pair_queries}
 use Rattle.bounds.specs.declared.reach.Reach.{Reach}
 use Rattle.bounds.specs.Reach.{ReachIs}
 use Rattle.bodies.specs.Walk.{positions, row_queries}
@@ -39,7 +37,7 @@ pub loop-j-init : goal.loop-j-init
 loop-j-init c =
     let begun : Going (15 * c.next_near-j.result) (row_queries c.args.w (positions c.args.a0.now c.args.a1.now) (positions c.args.b0.now c.args.b1.now) c.args.i c.args.n)
     (each_left c.args.n (λ x. pair_queries c.args.w (positions c.args.a0.now c.args.a1.now) (positions c.args.b0.now c.args.b1.now) c.args.i x) c.next_near-j.result) c.args.queue.now c.args.queue.now c.args.first c.counted-sofar.result =
-        let e : 15 * c.next_near-j.result ≡ 15 * (c.next_near-j.result - 0) = omega arith in
+    let e : 15 * c.next_near-j.result ≡ 15 * (c.next_near-j.result - 0) = omega arith in
     passed_over c.args.n 15 _ _ _ _ _ (row_of c.args.w c.args.a0.now c.args.a1.now c.args.b0.now c.args.b1.now c.args.i c.args.n _ c.reach_of-reach.ensures) c.requires.to_hear.goes c.next_near-j.ensures e c.counted-sofar.ensures _ (omega arith) (going_none 3840 _ _ _ _ (each_start _ _) c.requires.to_hear) in
     let g = begun in
     let e : 0 ≡ 15 * (c.next_near-j.result - c.next_near-j.result) = omega arith in
@@ -49,7 +47,7 @@ pub hear_pair-more-requires : goal.hear_pair-more-requires
 hear_pair-more-requires c =
     let begun : Going (15 * c.next_near-j.result) (row_queries c.args.w (positions c.args.a0.now c.args.a1.now) (positions c.args.b0.now c.args.b1.now) c.args.i c.args.n)
     (each_left c.args.n (λ x. pair_queries c.args.w (positions c.args.a0.now c.args.a1.now) (positions c.args.b0.now c.args.b1.now) c.args.i x) c.next_near-j.result) c.args.queue.now c.args.queue.now c.args.first c.counted-sofar.result =
-        let e : 15 * c.next_near-j.result ≡ 15 * (c.next_near-j.result - 0) = omega arith in
+    let e : 15 * c.next_near-j.result ≡ 15 * (c.next_near-j.result - 0) = omega arith in
     passed_over c.args.n 15 _ _ _ _ _ (row_of c.args.w c.args.a0.now c.args.a1.now c.args.b0.now c.args.b1.now c.args.i c.args.n _ c.reach_of-reach.ensures) c.requires.to_hear.goes c.next_near-j.ensures e c.counted-sofar.ensures _ (omega arith) (going_none 3840 _ _ _ _ (each_start _ _) c.requires.to_hear) in
     record {
       start = record { of_a_lem = c.requires.start_of_a; of_b_lem = omega (arith, c.requires.start_of_b) };
@@ -67,7 +65,7 @@ pub returns-then-is_over : goal.returns-then-is_over
 returns-then-is_over c =
     let begun : Going (15 * c.next_near-j.result) (row_queries c.args.w (positions c.args.a0.now c.args.a1.now) (positions c.args.b0.now c.args.b1.now) c.args.i c.args.n)
     (each_left c.args.n (λ x. pair_queries c.args.w (positions c.args.a0.now c.args.a1.now) (positions c.args.b0.now c.args.b1.now) c.args.i x) c.next_near-j.result) c.args.queue.now c.args.queue.now c.args.first c.counted-sofar.result =
-        let e : 15 * c.next_near-j.result ≡ 15 * (c.next_near-j.result - 0) = omega arith in
+    let e : 15 * c.next_near-j.result ≡ 15 * (c.next_near-j.result - 0) = omega arith in
     passed_over c.args.n 15 _ _ _ _ _ (row_of c.args.w c.args.a0.now c.args.a1.now c.args.b0.now c.args.b1.now c.args.i c.args.n _ c.reach_of-reach.ensures) c.requires.to_hear.goes c.next_near-j.ensures e c.counted-sofar.ensures _ (omega arith) (going_none 3840 _ _ _ _ (each_start _ _) c.requires.to_hear) in
     going_over _ 3840 _ _ _ _ _ _ (going_then (begun) (going_more (15 * (c.loop-j.j - c.next_near-j.result)) 15 _ _ _ _ _ _ _ _ c.loop-j.invariant.1.1.0 (each_next _ _ c.loop-j.j (omega arith)) (15 * (c.loop-j.j - c.next_near-j.result) + 15) (omega arith) _ _ c.hear_pair-more.ensures))
     (sym c.is_over.ensures ∙ c.if-is_over.true) (omega (arith, c.requires.count, c.loop-j.invariant.0))
@@ -93,7 +91,7 @@ pub counted-sofar-requires-in-loop-j : goal.counted-sofar-requires-in-loop-j
 counted-sofar-requires-in-loop-j c =
     let begun : Going (15 * c.next_near-j.result) (row_queries c.args.w (positions c.args.a0.now c.args.a1.now) (positions c.args.b0.now c.args.b1.now) c.args.i c.args.n)
     (each_left c.args.n (λ x. pair_queries c.args.w (positions c.args.a0.now c.args.a1.now) (positions c.args.b0.now c.args.b1.now) c.args.i x) c.next_near-j.result) c.args.queue.now c.args.queue.now c.args.first c.counted-sofar.result =
-        let e : 15 * c.next_near-j.result ≡ 15 * (c.next_near-j.result - 0) = omega arith in
+    let e : 15 * c.next_near-j.result ≡ 15 * (c.next_near-j.result - 0) = omega arith in
     passed_over c.args.n 15 _ _ _ _ _ (row_of c.args.w c.args.a0.now c.args.a1.now c.args.b0.now c.args.b1.now c.args.i c.args.n _ c.reach_of-reach.ensures) c.requires.to_hear.goes c.next_near-j.ensures e c.counted-sofar.ensures _ (omega arith) (going_none 3840 _ _ _ _ (each_start _ _) c.requires.to_hear) in
     let g = going_then (begun) c.loop-j.invariant.1.1.0 in
     omega (arith, c.next_near-near.ensures.most, c.next_near-near.ensures.later, c.requires.count, c.requires.to_hear.room, g.grows, c.hear_pair-more.ensures.grows, c.loop-j.invariant.0)
@@ -123,6 +121,6 @@ pub returns : goal.returns
 returns c =
     let begun : Going (15 * c.next_near-j.result) (row_queries c.args.w (positions c.args.a0.now c.args.a1.now) (positions c.args.b0.now c.args.b1.now) c.args.i c.args.n)
     (each_left c.args.n (λ x. pair_queries c.args.w (positions c.args.a0.now c.args.a1.now) (positions c.args.b0.now c.args.b1.now) c.args.i x) c.next_near-j.result) c.args.queue.now c.args.queue.now c.args.first c.counted-sofar.result =
-        let e : 15 * c.next_near-j.result ≡ 15 * (c.next_near-j.result - 0) = omega arith in
+    let e : 15 * c.next_near-j.result ≡ 15 * (c.next_near-j.result - 0) = omega arith in
     passed_over c.args.n 15 _ _ _ _ _ (row_of c.args.w c.args.a0.now c.args.a1.now c.args.b0.now c.args.b1.now c.args.i c.args.n _ c.reach_of-reach.ensures) c.requires.to_hear.goes c.next_near-j.ensures e c.counted-sofar.ensures _ (omega arith) (going_none 3840 _ _ _ _ (each_start _ _) c.requires.to_hear) in
     going_all _ 3840 _ _ _ _ _ _ (going_then (begun) c.loop-j.invariant.1.1.0) (each_end _ _ c.loop-j.j (omega arith)) (omega (arith, c.requires.count, c.loop-j.invariant.0))

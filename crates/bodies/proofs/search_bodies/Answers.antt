@@ -1,6 +1,5 @@
 use mathlib.Core.Path.{sym, ◌∙◌}
 use native.Mathlib.Omega.{arith}
-use borrow.Author.Rules.{rules}
 use Rattle.bodies.proofs.Settling.{refused, none_lent}
 use Rattle.bodies.proofs.search_bodies.Goals as goal
 

@@ -5,7 +5,6 @@ use lib.ListN.{replicate}
 use Rattle.rules.specs.Bodies.{body_refusal}
 use Rattle.bounds.specs.Reach.{body}
 use Rattle.bodies.proofs.Settling.{answered}
-use borrow.Author.Rules.{rules}
 use Rattle.bodies.proofs.walk.Goals as goal
 
 -- `bodies::walk` meets its contract: the cleared queue is lent on. Assumes nothing.

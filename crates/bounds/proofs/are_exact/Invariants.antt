@@ -1,12 +1,8 @@
-use Prim.Native.Nat.{ℕ, ◌-◌, ◌*◌, ◌≤◌}
-use mathlib.Core.Path.{◌≡◌, refl, sym, subst, ◌∙◌}
-use native.Mathlib.Omega.{arith}
-use borrow.Author.Rules.{rules}
-use borrow.Author.Tests.{not-false, not-true}
+use Prim.Native.Nat.{◌-◌, ◌*◌, ◌≤◌}
+use mathlib.Core.Path.{◌≡◌}
 use lib.ListN.{take}
 use Rattle.rules.specs.Bounds.{blocks, bounds_to}
 use Rattle.bounds.specs.Reach.{body}
-use Rattle.bounds.specs.Lists.{block_before, block_last, spans_yes, spans_no, same_more, same_not, same_all, same_long}
 use Rattle.bounds.proofs.are_exact.Given as goal
 
 -- `bounds::are_exact` meets its contract. Assumes nothing.

@@ -1,13 +1,10 @@
-use Prim.Native.Nat.{ℕ, suc, ◌+◌, ◌-◌, ◌*◌, ◌≤◌}
-use mathlib.Core.Path.{◌≡◌, sym, ap, subst, ◌∙◌}
-use mathlib.Core.List.{List}
+use Prim.Native.Nat.{ℕ, suc, ◌+◌, ◌*◌}
+use mathlib.Core.Path.{◌≡◌, sym, ap, ◌∙◌}
 use native.Mathlib.Omega.{arith}
-use borrow.Author.Rules.{rules}
-use lib.IntN.{ℤ}
 use lib.ListN.{length}
 use Rattle.little.specs.Put.{put_nil, length_put, one_more}
 use Rattle.rules.specs.QueryFile.{put}
-use Rattle.rules.specs.Bounds.{blocks, bound, bounds_to}
+use Rattle.rules.specs.Bounds.{bound, bounds_to}
 use Rattle.bounds.specs.Reach.{body}
 use Rattle.bounds.specs.Lists.{length_bounds, block_before, block_last}
 use Rattle.bounds.proofs.write_all.Goals as goal
@@ -23,7 +20,7 @@ bound_of-requires c =
 pub write_bound-requires : goal.write_bound-requires
 write_bound-requires c =
     let long : length c.loop-block.bounds ≡ length c.args.bounds.now =
-        let len = length_bounds (body c.args.count c.args.start.now c.args.end.now) c.loop-block.block in
+    let len = length_bounds (body c.args.count c.args.start.now c.args.end.now) c.loop-block.block in
     ap length c.loop-block.invariant.1 ∙ length_put c.args.bounds.now 0 (bounds_to (body c.args.count c.args.start.now c.args.end.now) c.loop-block.block) (omega (arith, len, c.loop-block.invariant.0, c.requires.room)) in
     let before = block_before c.args.count c.loop-block.block (omega arith) in
     omega (arith, before, c.requires.room, long)
@@ -45,7 +42,7 @@ loop-block-preserved c =
 pub shape_of-bounds : goal.shape_of-bounds
 shape_of-bounds c =
     let long : length c.loop-block.bounds ≡ length c.args.bounds.now =
-        let len = length_bounds (body c.args.count c.args.start.now c.args.end.now) c.loop-block.block in
+    let len = length_bounds (body c.args.count c.args.start.now c.args.end.now) c.loop-block.block in
     ap length c.loop-block.invariant.1 ∙ length_put c.args.bounds.now 0 (bounds_to (body c.args.count c.args.start.now c.args.end.now) c.loop-block.block) (omega (arith, len, c.loop-block.invariant.0, c.requires.room)) in
     long
 

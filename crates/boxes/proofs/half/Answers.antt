@@ -1,5 +1,4 @@
-use borrow.Author.Rules.{rules}
-use Rattle.boxes.specs.Words.{half_by_lem, one_most}
+use Rattle.boxes.specs.Words.{half_by_lem}
 use Rattle.boxes.proofs.half.Goals as goal
 
 pub returns : goal.returns

@@ -1,6 +1,5 @@
 use native.Mathlib.Omega.{arith}
 use Rattle.controller.proofs.Writing.{not_fetched, copied}
-use borrow.Author.Rules.{rules}
 use Rattle.controller.proofs.taperhive_copy.Goals as goal
 
 pub returns-then-refusal-ne0 : goal.returns-then-refusal-ne0

@@ -10,8 +10,6 @@ use Rattle.answers.specs.Doing.{refuses, answers}
 use Rattle.answers.specs.Walk.{tells}
 use Rattle.controller.specs.Given.{record_of}
 use Rattle.controller.proofs.Giving.{pair_none, pair_few, pair_short, pair_good, wide_range}
-use borrow.Author.Rules.{rules}
-use borrow.Author.Tests.{not-true, not-false}
 use Rattle.controller.proofs.taperhive_pair.Goals as goal
 
 pub returns-then-not-is_edition : goal.returns-then-not-is_edition

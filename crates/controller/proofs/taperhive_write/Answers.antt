@@ -1,6 +1,5 @@
 use native.Mathlib.Omega.{arith}
 use Rattle.controller.proofs.Giving.{few_written, given_written}
-use borrow.Author.Rules.{rules}
 use Rattle.controller.proofs.taperhive_write.Goals as goal
 
 -- `controller::taperhive_write` meets its contract: points are missing, or the writer's answer as a number. Assumes nothing.

@@ -1,4 +1,3 @@
-use borrow.Author.Rules.{rules}
 use Rattle.rules.specs.Why.{goes_up}
 use Rattle.descent.proofs.goes_up.Goals as goal
 

@@ -1,4 +1,3 @@
-use borrow.Author.Rules.{rules}
 use Rattle.descent.proofs.Going.{halves}
 use Rattle.descent.proofs.half.Goals as goal
 

@@ -1,7 +1,6 @@
-use mathlib.Core.Path.{◌≡◌, refl, sym, ap, ◌∙◌}
+use mathlib.Core.Path.{◌≡◌, refl, ap, ◌∙◌}
 use mathlib.Core.Bool.{Bool, true, false, cond}
 use native.Mathlib.Omega.{arith}
-use borrow.Author.Rules.{rules}
 use Rattle.rules.specs.declared.Three.{Three}
 use Rattle.rules.specs.declared.Parameter.{Parameter}
 use Rattle.rules.specs.Search.{Box, stored, low_half, high_half, deeper}
@@ -17,11 +16,14 @@ use Rattle.descent.proofs.holding.Goals as goal
 module _ (p : Parameter) (k b : Three) (h : Halves p k b) where
   here : Fits b
   here = fits_grid k b h.shallow h.grid
+
   -- a half fits a word too
   there : (high : Bool) → Fits (half_of p high b)
   there high = fits_grid (deeper p k) (half_of p high b) (deeper_shallow p k (λ e. omega (arith, h.below)) h.shallow) (half_grid p high k b h.grid)
+
   read_back : (high : Bool) → box_of (stored (half_of p high (box_of (stored b)))) ≡ half_of p high b
   read_back high = ap (λ (x : Box). box_of (stored (half_of p high x))) (unpack_pack b here) ∙ unpack_pack (half_of p high b) (there high)
+
   chosen : (high : Bool) → half_of p high b ≡ cond high (high_half p b) (low_half p b)
   chosen true = refl
   chosen false = refl

@@ -1,4 +1,3 @@
-use borrow.Author.Rules.{rules}
 use Rattle.descent.proofs.in_time.Goals as goal
 
 pub returns : goal.returns

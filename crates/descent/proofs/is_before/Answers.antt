@@ -1,4 +1,3 @@
-use borrow.Author.Rules.{rules}
 use Rattle.rules.specs.Why.{is_before}
 use Rattle.descent.proofs.is_before.Goals as goal
 

@@ -1,7 +1,4 @@
-use mathlib.Core.Path.{sym, ap}
-use mathlib.Core.Bool.{Bool, cond}
 use borrow.Author.Tests.{eq-eqb, ne_eqb}
-use Rattle.rules.specs.Numbers.{parts}
 use Rattle.gap.proofs.last_moment.Goals as goal
 
 -- `gap::last_moment` meets its contract.

@@ -1,4 +1,3 @@
-use borrow.Author.Rules.{rules}
 use lib.Dec.{lit≤}
 use Rattle.kernel.specs.Ranges.{Held}
 use Rattle.gap.specs.Points.{kernel_by_small}

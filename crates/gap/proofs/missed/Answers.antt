@@ -1,4 +1,3 @@
-use borrow.Author.Rules.{rules}
 use Rattle.gap.specs.Grid.{over_of}
 use Rattle.gap.specs.Miss.{missed_is}
 use Rattle.gap.proofs.missed.Goals as goal

@@ -1,4 +1,3 @@
-use borrow.Author.Rules.{rules}
 use native.Mathlib.Nat.{le_trans}
 use Rattle.rules.specs.declared.Parameter.TheVariants.{InT, InU, InV}
 use Rattle.rules.specs.Search.{split}

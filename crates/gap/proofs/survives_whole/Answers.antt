@@ -1,4 +1,3 @@
-use borrow.Author.Rules.{rules}
 use lib.Dec.{lit≤}
 use Rattle.kernel.specs.Ranges.{one_part}
 use Rattle.gap.specs.Prepared.{coordinates, pair_prepared, misses_z, misses_x, goes_by_y}

@@ -1,5 +1,4 @@
 use Rattle.rules.specs.QueryFile.{word}
-use borrow.Author.Rules.{rules}
 use Rattle.little.proofs.read_u32.Goals as goal
 
 pub returns : goal.returns

@@ -3,7 +3,6 @@ use native.Mathlib.Omega.{arith}
 use lib.ListN.{length}
 use Rattle.rules.specs.QueryFile.{stands}
 use Rattle.little.specs.Stands.{four, stands_four}
-use borrow.Author.Rules.{rules}
 use Rattle.little.proofs.stands4.Goals as goal
 
 pub returns : goal.returns

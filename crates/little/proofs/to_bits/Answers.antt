@@ -4,7 +4,7 @@ use mir.Facts.{Fits-of_z}
 use mathlib.Core.Path.{sym, ◌∙◌}
 use mir.Syntax.{w32}
 use mir.Val.{of_z}
-use Rattle.little.specs.Signed.{bits_is, high, low, casts, same}
+use Rattle.little.specs.Signed.{bits_is, high, low, same}
 use Rattle.little.proofs.to_bits.Goals as goal
 
 pub returns-then-v-lt0 : goal.returns-then-v-lt0

@@ -4,7 +4,6 @@ use native.Mathlib.Omega.{arith}
 use mir.Syntax.{w32}
 use mir.Val.{to_z}
 use Rattle.little.specs.Signed.{signed_is}
-use borrow.Author.Rules.{rules}
 use Rattle.little.proofs.to_signed.Goals as goal
 
 pub returns-then-x-lt2147483648 : goal.returns-then-x-lt2147483648

@@ -1,7 +1,4 @@
-use native.Mathlib.Omega.{arith}
-use lib.ListN.{length-set}
 use Rattle.little.specs.Put.{put4}
-use borrow.Author.Rules.{rules}
 use Rattle.little.proofs.write4.Goals as goal
 
 pub returns : goal.returns

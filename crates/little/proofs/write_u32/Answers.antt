@@ -1,5 +1,4 @@
 use Rattle.rules.specs.QueryFile.{word_bytes}
-use borrow.Author.Rules.{rules}
 use Rattle.little.proofs.write_u32.Goals as goal
 
 pub returns : goal.returns

@@ -4,7 +4,6 @@ use mathlib.Core.List.{List}
 use native.Mathlib.Omega.{arith}
 use Rattle.text.specs.Text.{rows, file_text}
 use Rattle.page.proofs.Paging.{rows_put, answers_room, printed_as}
-use borrow.Author.Rules.{rules}
 use Rattle.page.proofs.write_records.Goals as goal
 
 pub returns : goal.returns

@@ -6,7 +6,6 @@ use lib.ListN.{length, get_or}
 use Rattle.rules.specs.QueryFile.{word_bytes, edition_bytes, trailer_bytes, put}
 use Rattle.little.specs.Put.{one_more}
 use Rattle.little.specs.Stands.{four}
-use Rattle.queries.specs.Writing.{few_bytes}
 use borrow.Author.Rules.{rules}
 use Rattle.queries.proofs.encode_trailer.Goals as goal
 

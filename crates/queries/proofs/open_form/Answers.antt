@@ -5,7 +5,6 @@ use borrow.Author.Tests.{lt-ltb, le-ltb}
 use Rattle.rules.specs.Refusals.{first}
 use Rattle.rules.specs.QueryFile.{open_refusal, open_unless, opened, trailer_place, back_pointer, record_count}
 use Rattle.queries.specs.Opening.{refused_open, opens}
-use borrow.Author.Rules.{rules}
 use Rattle.queries.proofs.open_form.Goals as goal
 
 pub returns-then-n-lt16 : goal.returns-then-n-lt16
@@ -16,7 +15,7 @@ pub returns-then-nine-ne0 : goal.returns-then-nine-ne0
 unfolding opened open_refusal first
 returns-then-nine-ne0 c =
     let number : c.first-nine.result ≡ open_refusal c.args.form c.args.s.now =
-        simp (
+    simp (
       c.first-nine.ensures,
       c.stands4-2.ensures,
       c.first-ten.ensures,
@@ -37,7 +36,7 @@ pub overflow_sub-result : goal.overflow_sub-result
 unfolding open_refusal first
 overflow_sub-result c =
     let number : c.first-nine.result ≡ open_refusal c.args.form c.args.s.now =
-        simp (
+    simp (
       c.first-nine.ensures,
       c.stands4-2.ensures,
       c.first-ten.ensures,
@@ -51,7 +50,7 @@ overflow_sub-result c =
       le-ltb _ _ c.if-n-lt16.false,
     ) in
     let back_is : c.wide-back.result ≡ back_pointer c.args.s.now =
-        c.wide-back.ensures ∙ c.read_u32.ensures in
+    c.wide-back.ensures ∙ c.read_u32.ensures in
     let o = opens c.args.form c.args.s.now (sym (number) ∙ c.if-nine-ne0.false) in
     omega (arith, o.room, back_is)
 
@@ -59,7 +58,7 @@ pub returns : goal.returns
 unfolding opened open_unless open_refusal first
 returns c =
     let number : c.first-nine.result ≡ open_refusal c.args.form c.args.s.now =
-        simp (
+    simp (
       c.first-nine.ensures,
       c.stands4-2.ensures,
       c.first-ten.ensures,
@@ -73,5 +72,5 @@ returns c =
       le-ltb _ _ c.if-n-lt16.false,
     ) in
     let back_is : c.wide-back.result ≡ back_pointer c.args.s.now =
-        c.wide-back.ensures ∙ c.read_u32.ensures in
+    c.wide-back.ensures ∙ c.read_u32.ensures in
     simp (sym (number) ∙ c.if-nine-ne0.false, back_is, c.wide-count.ensures, c.read_u32-count.ensures)

@@ -1,13 +1,12 @@
 use mathlib.Core.Path.{◌≡◌, sym, ◌∙◌}
 use Rattle.rules.specs.QueryFile.{record_bytes, write_refusal}
 use Rattle.queries.specs.Writing.{refused_write, done_write, write_is, write_room}
-use borrow.Author.Rules.{rules}
 use Rattle.queries.proofs.write_record.Goals as goal
 
 pub returns-then-number-ne0 : goal.returns-then-number-ne0
 returns-then-number-ne0 c =
     let number : c.refusal_with-number.result ≡ write_refusal c.args.edition c.args.s.now c.args.at c.args.r =
-        simp (
+    simp (
       c.refusal_with-number.ensures,
       c.in_edition.ensures,
       c.has_cap_room.ensures,
@@ -24,7 +23,7 @@ returns-then-number-ne0 c =
 pub encode-requires : goal.encode-requires
 encode-requires c =
     let number : c.refusal_with-number.result ≡ write_refusal c.args.edition c.args.s.now c.args.at c.args.r =
-        simp (
+    simp (
       c.refusal_with-number.ensures,
       c.in_edition.ensures,
       c.has_cap_room.ensures,
@@ -41,7 +40,7 @@ encode-requires c =
 pub returns : goal.returns
 returns c =
     let number : c.refusal_with-number.result ≡ write_refusal c.args.edition c.args.s.now c.args.at c.args.r =
-        simp (
+    simp (
       c.refusal_with-number.ensures,
       c.in_edition.ensures,
       c.has_cap_room.ensures,

@@ -1,9 +1,7 @@
 use mathlib.Core.Path.{sym, ◌∙◌}
 use native.Mathlib.Omega.{arith}
-use borrow.Author.Tests.{not-true, not-false}
 use Rattle.rules.specs.QueryFile.{query_form, trailer_bytes, query_trailer_refusal}
 use Rattle.queries.specs.Writing.{refused_write, trailer_none, trailer_edition}
-use borrow.Author.Rules.{rules}
 use Rattle.queries.proofs.write_trailer.Goals as goal
 
 pub returns-then-not-is_edition : goal.returns-then-not-is_edition

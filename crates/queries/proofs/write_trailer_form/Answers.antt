@@ -2,14 +2,13 @@ use mathlib.Core.Path.{◌≡◌, sym, ◌∙◌}
 use Rattle.rules.specs.Refusals.{first}
 use Rattle.rules.specs.QueryFile.{trailer_bytes, trailer_refusal}
 use Rattle.queries.specs.Writing.{refused_write, done_write, trailer_room}
-use borrow.Author.Rules.{rules}
 use Rattle.queries.proofs.write_trailer_form.Goals as goal
 
 pub returns-then-number-ne0 : goal.returns-then-number-ne0
 unfolding trailer_refusal first
 returns-then-number-ne0 c =
     let number : c.first-number.result ≡ trailer_refusal c.args.form c.args.s.now c.args.at c.args.count =
-        simp (
+    simp (
       c.first-number.ensures,
       c.first-twelve.ensures,
       c.times.ensures,
@@ -22,7 +21,7 @@ pub encode_trailer-requires : goal.encode_trailer-requires
 unfolding trailer_refusal first
 encode_trailer-requires c =
     let number : c.first-number.result ≡ trailer_refusal c.args.form c.args.s.now c.args.at c.args.count =
-        simp (
+    simp (
       c.first-number.ensures,
       c.first-twelve.ensures,
       c.times.ensures,
@@ -36,7 +35,7 @@ pub returns : goal.returns
 unfolding trailer_refusal first
 returns c =
     let number : c.first-number.result ≡ trailer_refusal c.args.form c.args.s.now c.args.at c.args.count =
-        simp (
+    simp (
       c.first-number.ensures,
       c.first-twelve.ensures,
       c.times.ensures,

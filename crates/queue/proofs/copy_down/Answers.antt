@@ -1,7 +1,4 @@
-use mathlib.Core.Path.{refl}
-use Prim.Native.Nat.{◌-◌}
-use Rattle.queue.proofs.Copying.{Copied, copied_more, copied_all}
-use borrow.Author.Rules.{rules}
+use Rattle.queue.proofs.Copying.{copied_more}
 use native.Mathlib.Omega.{arith}
 use Rattle.queue.proofs.copy_down.Goals as goal
 

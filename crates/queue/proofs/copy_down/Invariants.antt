@@ -1,8 +1,5 @@
-use mathlib.Core.Path.{refl}
 use Prim.Native.Nat.{◌-◌}
-use Rattle.queue.proofs.Copying.{Copied, copied_more, copied_all}
-use borrow.Author.Rules.{rules}
-use native.Mathlib.Omega.{arith}
+use Rattle.queue.proofs.Copying.{Copied}
 use Rattle.queue.proofs.copy_down.Given as goal
 
 -- The loop is that of `Copying`.

@@ -1,9 +1,6 @@
-use mathlib.Core.Path.{refl, sym, ◌∙◌}
-use Prim.Native.Nat.{◌+◌, ◌-◌}
+use mathlib.Core.Path.{sym, ◌∙◌}
 use native.Mathlib.Omega.{arith}
-use borrow.Author.Rules.{rules}
-use Rattle.kernel.specs.Kernel.{asked}
-use Rattle.queue.proofs.Growing.{Written, halvable, written_none, takes, in_grid, one_more_taken, written_pass, written_put, grown_room, grown_level}
+use Rattle.queue.proofs.Growing.{takes, in_grid, written_pass, written_put, grown_room, grown_level}
 use Rattle.queue.proofs.grow.Goals as goal
 
 pub returns-then-word-c : goal.returns-then-word-c

@@ -1,8 +1,5 @@
 use mathlib.Core.Path.{refl}
-use native.Mathlib.Omega.{arith}
-use borrow.Author.Rules.{rules}
-use Rattle.boxes.specs.Words.{one_most}
-use Rattle.queue.proofs.Picking.{word_fits, half_there, half_none}
+use Rattle.queue.proofs.Picking.{half_there}
 use Rattle.queue.proofs.half_at.Goals as goal
 
 pub returns-then-at-n : goal.returns-then-at-n

@@ -1,4 +1,3 @@
-use borrow.Author.Rules.{rules}
 use borrow.Author.Tests.{leb-true}
 use mathlib.Core.Path.{sym, ◌∙◌}
 use lib.Dec.{leb}

@@ -1,13 +1,9 @@
 use Prim.Native.Nat.{◌≤◌, ◌-◌}
-use mathlib.Core.Path.{◌≡◌, refl, sym, ◌∙◌}
+use mathlib.Core.Path.{◌≡◌}
 use mathlib.Core.Bool.{◌&&◌}
-use native.Mathlib.Omega.{arith}
-use borrow.Author.Rules.{rules, sfits_of}
 use lib.ListN.{length, drop}
-use mir.Facts.{to_z-of_z}
 use Rattle.rules.specs.Numbers.{limits_by, is_coordinate}
 use Rattle.rules.specs.Refusals.{every}
-use Rattle.refusals.specs.Every.{every_next, every_end}
 use Rattle.refusals.proofs.are_within.Given as goal
 
 -- `refusals::are_within` meets its contract. What was found so far, and the test of what is left, are together the test of all. Assumes nothing.

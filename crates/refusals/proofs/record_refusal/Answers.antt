@@ -1,7 +1,6 @@
 use mathlib.Core.Path.{sym, ◌∙◌}
 use Rattle.rules.specs.Refusals.{record_cases, record_refusal}
 use Rattle.refusals.specs.Cases.{first_alone}
-use borrow.Author.Rules.{rules}
 use Rattle.refusals.proofs.record_refusal.Goals as goal
 
 pub returns : goal.returns

@@ -1,5 +1,4 @@
 use Rattle.refusals.specs.Cases.{first_or}
-use borrow.Author.Rules.{rules}
 use Rattle.refusals.proofs.refusal_by.Goals as goal
 
 pub returns : goal.returns

@@ -4,7 +4,6 @@ use mathlib.Core.List.{List, [], ◌∷◌}
 use Rattle.rules.specs.Numbers.{is_queue}
 use Rattle.rules.specs.Refusals.{Case, first, record_cases, search_refusal}
 use Rattle.refusals.specs.Cases.{first_or, first_append}
-use borrow.Author.Rules.{rules}
 use Rattle.refusals.proofs.search_refusal_by.Goals as goal
 
 pub returns : goal.returns

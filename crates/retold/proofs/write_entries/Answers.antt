@@ -7,7 +7,6 @@ use Rattle.rules.specs.AnswerFile.{Entry, entry_at}
 use Rattle.queries.specs.Layout.{length_read}
 use Rattle.text.specs.Text.{rows, file_text}
 use Rattle.page.proofs.Paging.{rows_front, answers_room, printed_as}
-use borrow.Author.Rules.{rules}
 use Rattle.retold.proofs.write_entries.Goals as goal
 
 pub returns : goal.returns

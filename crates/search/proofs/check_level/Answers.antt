@@ -1,7 +1,6 @@
 use mathlib.Core.Path.{◌≡◌, sym, subst, ◌∙◌}
-use mathlib.Core.Bool.{Bool, true, false, and-eq-true_iff}
-use mathlib.Core.Logic.{⊎_elim}
-use Prim.Native.Nat.{ℕ, ◌+◌, ◌-◌, ◌<◌, ◌≤◌}
+use mathlib.Core.Bool.{true, false, and-eq-true_iff}
+use Prim.Native.Nat.{ℕ, ◌+◌, ◌<◌, ◌≤◌}
 use lib.Dec.{eqb}
 use lib.ListN.{get_or, set, length-set}
 use borrow.Author.Tests.{eqb-true, eqb-false}
@@ -10,12 +9,11 @@ use Rattle.rules.specs.declared.Answer.TheVariants.{Spent}
 use Rattle.rules.specs.Search.{with_count}
 use Rattle.kernel.specs.Kernel.{asked}
 use Rattle.boxes.specs.Boxes.{box_of}
-use Rattle.gap.specs.Slab.{slab_of, slab_own}
+use Rattle.gap.specs.Slab.{slab_own}
 use Rattle.search.specs.declared.First.TheVariants.{Ends as EndsAt, Recorded}
 use Rattle.search.specs.declared.Step.TheVariants.{Ends, Goes}
-use Rattle.search.specs.Levels.{FirstIs, Affords, CheckIs}
+use Rattle.search.specs.Levels.{FirstIs, CheckIs}
 use Rattle.search.proofs.Checking.{Checking, checking_none, one_box_lem, checks_first, checks_spent, checking_lost, checking_again, checking_first, checks_all}
-use borrow.Author.Rules.{rules}
 use native.Mathlib.Omega.{arith}
 use Rattle.search.proofs.check_level.Goals as goal
 use Rattle.search.proofs.check_level.Goals.{then-alive-m+in-Recorded, else-alive-m}
@@ -110,12 +108,12 @@ loop-i-preserved-then-alive c =
     let one : c.args.l.count + (c.loop-i.i + 1) ≡ c.args.l.count + c.loop-i.i + 1 = omega arith in
     let alive = rw c.unpack-b.ensures at (sym c.survives_in-alive.ensures ∙ c.if-alive.true) in (
       (elim c.if-alive-m.branch [
-          then-alive-m+in-Recorded w ↦ let t = (and-eq-true_iff c.survives_in-alive.result (eqb c.loop-i.m 0)).0 w.if-alive-m.true in
-                    subst (λ (d : Corner). Checking c.args.p c.args.l c.args.queue.now (set c.loop-i.queue c.loop-i.m (get_or c.loop-i.queue c.loop-i.i 0)) d (c.args.l.count + (c.loop-i.i + 1)) (c.loop-i.i + 1) (c.loop-i.m + 1)) (sym w.corner-is)
-          (subst (λ (n : ℕ). Checking c.args.p c.args.l c.args.queue.now (set c.loop-i.queue c.loop-i.m (get_or c.loop-i.queue c.loop-i.i 0)) w.in-Recorded.c n (c.loop-i.i + 1) (c.loop-i.m + 1)) (sym one) (checking_first c.args.p c.args.l c.args.queue.now c.requires c.loop-i.queue c.loop-i.corner (c.args.l.count + c.loop-i.i) c.loop-i.i c.loop-i.m c.loop-i.invariant.0 more left (eqb-true c.loop-i.m 0 t.1) alive w.in-Recorded.c (subst (λ (n : ℕ). FirstIs (asked c.args.p) c.args.l.depths (box_of (get_or c.loop-i.queue c.loop-i.i 0)) n (Recorded w.in-Recorded.c)) one (rw (w.in-Recorded.is, c.unpack-b.ensures) at w.first_survivor.ensures))))
-          | else-alive-m w ↦ subst (λ (d : Corner). Checking c.args.p c.args.l c.args.queue.now (set c.loop-i.queue c.loop-i.m (get_or c.loop-i.queue c.loop-i.i 0)) d (c.args.l.count + (c.loop-i.i + 1)) (c.loop-i.i + 1) (c.loop-i.m + 1)) (sym w.corner-is)
-          (subst (λ (n : ℕ). Checking c.args.p c.args.l c.args.queue.now (set c.loop-i.queue c.loop-i.m (get_or c.loop-i.queue c.loop-i.i 0)) c.loop-i.corner n (c.loop-i.i + 1) (c.loop-i.m + 1)) (sym one) (checking_again c.args.p c.args.l c.args.queue.now c.requires c.loop-i.queue c.loop-i.corner (c.args.l.count + c.loop-i.i) c.loop-i.i c.loop-i.m c.loop-i.invariant.0 more left alive (some c.loop-i.m (eqb-false c.loop-i.m 0 (rw c.if-alive.true at w.if-alive-m.false)))))
-        ]),
+        | then-alive-m+in-Recorded w ↦ let t = (and-eq-true_iff c.survives_in-alive.result (eqb c.loop-i.m 0)).0 w.if-alive-m.true in
+            subst (λ (d : Corner). Checking c.args.p c.args.l c.args.queue.now (set c.loop-i.queue c.loop-i.m (get_or c.loop-i.queue c.loop-i.i 0)) d (c.args.l.count + (c.loop-i.i + 1)) (c.loop-i.i + 1) (c.loop-i.m + 1)) (sym w.corner-is)
+            (subst (λ (n : ℕ). Checking c.args.p c.args.l c.args.queue.now (set c.loop-i.queue c.loop-i.m (get_or c.loop-i.queue c.loop-i.i 0)) w.in-Recorded.c n (c.loop-i.i + 1) (c.loop-i.m + 1)) (sym one) (checking_first c.args.p c.args.l c.args.queue.now c.requires c.loop-i.queue c.loop-i.corner (c.args.l.count + c.loop-i.i) c.loop-i.i c.loop-i.m c.loop-i.invariant.0 more left (eqb-true c.loop-i.m 0 t.1) alive w.in-Recorded.c (subst (λ (n : ℕ). FirstIs (asked c.args.p) c.args.l.depths (box_of (get_or c.loop-i.queue c.loop-i.i 0)) n (Recorded w.in-Recorded.c)) one (rw (w.in-Recorded.is, c.unpack-b.ensures) at w.first_survivor.ensures))))
+        | else-alive-m w ↦ subst (λ (d : Corner). Checking c.args.p c.args.l c.args.queue.now (set c.loop-i.queue c.loop-i.m (get_or c.loop-i.queue c.loop-i.i 0)) d (c.args.l.count + (c.loop-i.i + 1)) (c.loop-i.i + 1) (c.loop-i.m + 1)) (sym w.corner-is)
+            (subst (λ (n : ℕ). Checking c.args.p c.args.l c.args.queue.now (set c.loop-i.queue c.loop-i.m (get_or c.loop-i.queue c.loop-i.i 0)) c.loop-i.corner n (c.loop-i.i + 1) (c.loop-i.m + 1)) (sym one) (checking_again c.args.p c.args.l c.args.queue.now c.requires c.loop-i.queue c.loop-i.corner (c.args.l.count + c.loop-i.i) c.loop-i.i c.loop-i.m c.loop-i.invariant.0 more left alive (some c.loop-i.m (eqb-false c.loop-i.m 0 (rw c.if-alive.true at w.if-alive-m.false)))))
+      ]),
       (c.loop-i.invariant.1.0, (omega (arith, c.loop-i-test.true), slab_own c.args.p c.args.l.depths _ _ c.renewed-slab.ensures)),
     )
 
@@ -129,10 +127,10 @@ loop-i-preserved c =
     let one : c.args.l.count + (c.loop-i.i + 1) ≡ c.args.l.count + c.loop-i.i + 1 = omega arith in
     let lost = rw c.unpack-b.ensures at (sym c.survives_in-alive.ensures ∙ c.if-alive.false) in (
       (elim c.if-alive-m.branch [
-          then-alive-m+in-Recorded w ↦ absurd (differ (sym ((and-eq-true_iff _ (eqb c.loop-i.m 0)).0 w.if-alive-m.true).0 ∙ c.if-alive.false))
-          | else-alive-m w ↦ subst (λ (d : Corner). Checking c.args.p c.args.l c.args.queue.now (set c.loop-i.queue c.loop-i.m (get_or c.loop-i.queue c.loop-i.i 0)) d (c.args.l.count + (c.loop-i.i + 1)) (c.loop-i.i + 1) c.loop-i.m) (sym w.corner-is)
-          (subst (λ (n : ℕ). Checking c.args.p c.args.l c.args.queue.now (set c.loop-i.queue c.loop-i.m (get_or c.loop-i.queue c.loop-i.i 0)) c.loop-i.corner n (c.loop-i.i + 1) c.loop-i.m) (sym one) (checking_lost c.args.p c.args.l c.args.queue.now c.requires c.loop-i.queue c.loop-i.corner (c.args.l.count + c.loop-i.i) c.loop-i.i c.loop-i.m c.loop-i.invariant.0 more left lost))
-        ]),
+        | then-alive-m+in-Recorded w ↦ absurd (differ (sym ((and-eq-true_iff _ (eqb c.loop-i.m 0)).0 w.if-alive-m.true).0 ∙ c.if-alive.false))
+        | else-alive-m w ↦ subst (λ (d : Corner). Checking c.args.p c.args.l c.args.queue.now (set c.loop-i.queue c.loop-i.m (get_or c.loop-i.queue c.loop-i.i 0)) d (c.args.l.count + (c.loop-i.i + 1)) (c.loop-i.i + 1) c.loop-i.m) (sym w.corner-is)
+            (subst (λ (n : ℕ). Checking c.args.p c.args.l c.args.queue.now (set c.loop-i.queue c.loop-i.m (get_or c.loop-i.queue c.loop-i.i 0)) c.loop-i.corner n (c.loop-i.i + 1) c.loop-i.m) (sym one) (checking_lost c.args.p c.args.l c.args.queue.now c.requires c.loop-i.queue c.loop-i.corner (c.args.l.count + c.loop-i.i) c.loop-i.i c.loop-i.m c.loop-i.invariant.0 more left lost))
+      ]),
       (c.loop-i.invariant.1.0, (omega (arith, c.loop-i-test.true), slab_own c.args.p c.args.l.depths _ _ c.renewed-slab.ensures)),
     )
 

@@ -1,22 +1,8 @@
-use mathlib.Core.Path.{◌≡◌, sym, subst, ◌∙◌}
-use mathlib.Core.Bool.{Bool, true, false, and-eq-true_iff}
-use mathlib.Core.Logic.{⊎_elim}
-use Prim.Native.Nat.{ℕ, ◌+◌, ◌-◌, ◌<◌, ◌≤◌}
-use lib.Dec.{eqb}
-use lib.ListN.{get_or, set, length-set}
-use borrow.Author.Tests.{eqb-true, eqb-false}
-use Rattle.rules.specs.declared.Corner.{Corner}
-use Rattle.rules.specs.declared.Answer.TheVariants.{Spent}
-use Rattle.rules.specs.Search.{with_count}
-use Rattle.kernel.specs.Kernel.{asked}
-use Rattle.boxes.specs.Boxes.{box_of}
-use Rattle.gap.specs.Slab.{slab_of, slab_own}
-use Rattle.search.specs.declared.First.TheVariants.{Ends as EndsAt, Recorded}
-use Rattle.search.specs.declared.Step.TheVariants.{Ends, Goes}
-use Rattle.search.specs.Levels.{FirstIs, Affords, CheckIs}
-use Rattle.search.proofs.Checking.{Checking, checking_none, one_box_lem, checks_first, checks_spent, checking_lost, checking_again, checking_first, checks_all}
-use borrow.Author.Rules.{rules}
-use native.Mathlib.Omega.{arith}
+use mathlib.Core.Path.{◌≡◌}
+use Prim.Native.Nat.{◌+◌, ◌-◌, ◌≤◌}
+use Rattle.gap.specs.Slab.{slab_of}
+use Rattle.search.specs.Levels.{Affords}
+use Rattle.search.proofs.Checking.{Checking}
 use Rattle.search.proofs.check_level.Given as goal
 
 abbrev pub invariant-loop-i : goal.invariant-loop-i

@@ -1,6 +1,5 @@
 use mathlib.Core.Path.{◌∙◌}
 use Rattle.search.proofs.Tidying.{all_cleared}
-use borrow.Author.Rules.{rules}
 use Rattle.search.proofs.clear_used.Goals as goal
 
 pub returns : goal.returns

@@ -1,4 +1,3 @@
-use borrow.Author.Rules.{rules}
 use Rattle.search.proofs.deepen.Goals as goal
 
 pub returns-in-InT : goal.returns-in-InT

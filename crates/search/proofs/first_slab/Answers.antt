@@ -3,7 +3,6 @@ use lib.Pow.{pow_pos}
 use Rattle.gap.specs.Slab.{slab_own}
 use Rattle.queue.specs.All.{all_front}
 use Rattle.queue.specs.Level.{OfLevel}
-use borrow.Author.Rules.{rules}
 use Rattle.search.proofs.first_slab.Goals as goal
 
 -- The first word of a level is a box of it.

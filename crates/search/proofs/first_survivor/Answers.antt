@@ -2,7 +2,6 @@ use mathlib.Core.Path.{sym, ◌∙◌}
 use Rattle.kernel.specs.Kernel.{asked}
 use Rattle.gap.specs.Asked.{recorded}
 use Rattle.search.proofs.Checking.{first_met, first_floor, first_goes}
-use borrow.Author.Rules.{rules}
 use Rattle.search.proofs.first_survivor.Goals as goal
 
 -- Each way out is a law of `Checking`.

@@ -2,7 +2,6 @@ use mathlib.Core.Path.{◌∙◌}
 use Rattle.kernel.specs.Ranges.{shallower}
 use Rattle.search.proofs.Stepping.{grows, splits_room, splits_level}
 use native.Mathlib.Omega.{arith}
-use borrow.Author.Rules.{rules}
 use Rattle.search.proofs.next_level.Goals as goal
 
 -- The ways out are laws of `Stepping`.

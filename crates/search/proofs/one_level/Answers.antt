@@ -1,5 +1,4 @@
 use Rattle.search.proofs.Stepping.{steps_ends, steps_clear, splitting, steps_splits}
-use borrow.Author.Rules.{rules}
 use Rattle.search.proofs.one_level.Goals as goal
 
 -- The ways out are laws of `Stepping`.

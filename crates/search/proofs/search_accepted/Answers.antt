@@ -1,7 +1,6 @@
 use mathlib.Core.Path.{refl, sym, ◌∙◌}
 use lib.ListN.{length}
 use Rattle.search.specs.Whole.{search_clear}
-use borrow.Author.Rules.{rules}
 use Rattle.search.proofs.search_accepted.Goals as goal
 
 pub returns : goal.returns

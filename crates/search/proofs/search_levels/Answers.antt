@@ -2,7 +2,6 @@ use mathlib.Core.Path.{refl, sym, ap, ◌∙◌}
 use lib.ListN.{length}
 use Rattle.rules.specs.Search.{Query, run}
 use Rattle.search.proofs.Running.{search_run}
-use borrow.Author.Rules.{rules}
 use Rattle.search.proofs.search_levels.Goals as goal
 
 pub search_zeroed-requires : goal.search_zeroed-requires

@@ -1,9 +1,7 @@
 use mathlib.Core.Path.{sym, ap, ◌∙◌}
-use Prim.Native.Nat.{ℕ, ◌-◌}
+use Prim.Native.Nat.{ℕ}
 use lib.ListN.{length, replicate}
-use Rattle.search.specs.Levels.{total}
-use Rattle.search.proofs.Running.{Running, running_none, running_ends, running_less, running_goes}
-use borrow.Author.Rules.{rules}
+use Rattle.search.proofs.Running.{running_none, running_ends, running_less, running_goes}
 use native.Mathlib.Omega.{arith}
 use Rattle.search.proofs.search_zeroed.Goals as goal
 

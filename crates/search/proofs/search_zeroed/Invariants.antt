@@ -1,10 +1,7 @@
-use mathlib.Core.Path.{sym, ap, ◌∙◌}
-use Prim.Native.Nat.{ℕ, ◌-◌}
-use lib.ListN.{length, replicate}
+use Prim.Native.Nat.{◌-◌}
+use lib.ListN.{length}
 use Rattle.search.specs.Levels.{total}
-use Rattle.search.proofs.Running.{Running, running_none, running_ends, running_less, running_goes}
-use borrow.Author.Rules.{rules}
-use native.Mathlib.Omega.{arith}
+use Rattle.search.proofs.Running.{Running}
 use Rattle.search.proofs.search_zeroed.Given as goal
 
 -- The loop is that of `Running`.

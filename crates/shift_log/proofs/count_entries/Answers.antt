@@ -1,4 +1,3 @@
-use borrow.Author.Rules.{rules}
 use Rattle.shift_log.proofs.count_entries.Goals as goal
 
 pub returns : goal.returns

@@ -1,6 +1,5 @@
 use Rattle.answers.specs.Walking.{answered}
 use Rattle.shift_log.specs.Calls.{bytes_of}
-use borrow.Author.Rules.{rules}
 use Rattle.shift_log.proofs.log_at.Goals as goal
 
 pub returns : goal.returns

@@ -1,9 +1,8 @@
-use Prim.Native.Nat.{◌-◌}
 use native.Mathlib.Omega.{arith}
 use lib.ListN.{length}
 use Rattle.rules.specs.QueryFile.{record_size}
 use Rattle.queries.specs.Sizes.{record_within}
-use Rattle.answers.specs.Walking.{Walked, walked_none, walked_more, walked_all}
+use Rattle.answers.specs.Walking.{walked_none, walked_more, walked_all}
 use Rattle.shift_log.specs.Calls.{bytes_of}
 use Rattle.shift_log.proofs.Logging.{long}
 use Rattle.shift_log.proofs.log_records.Goals as goal

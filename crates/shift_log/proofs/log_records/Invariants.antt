@@ -1,11 +1,6 @@
 use Prim.Native.Nat.{◌-◌}
-use native.Mathlib.Omega.{arith}
-use lib.ListN.{length}
-use Rattle.rules.specs.QueryFile.{record_size}
-use Rattle.queries.specs.Sizes.{record_within}
-use Rattle.answers.specs.Walking.{Walked, walked_none, walked_more, walked_all}
+use Rattle.answers.specs.Walking.{Walked}
 use Rattle.shift_log.specs.Calls.{bytes_of}
-use Rattle.shift_log.proofs.Logging.{long}
 use Rattle.shift_log.proofs.log_records.Given as goal
 
 -- `shift_log::log_records` meets its contract: record after record. Assumes nothing.

@@ -1,4 +1,3 @@
-use borrow.Author.Rules.{rules}
 use Rattle.shift_log.proofs.write_trailer.Goals as goal
 
 pub returns : goal.returns

@@ -1,11 +1,6 @@
-use borrow.Author.Rules.{rules}
 use native.Mathlib.Omega.{arith}
-use Prim.Native.Nat.{◌+◌, ◌-◌, ◌*◌}
 use mathlib.Core.Path.{◌≡◌}
-use lib.Dec.{eqb}
-use lib.ListN.{get_or}
-use Rattle.text.specs.Text.{kind_of}
-use Rattle.text.proofs.Rows.{Counted, counted_none, counted_more, counted_all, at_most_one}
+use Rattle.text.proofs.Rows.{counted_more, counted_all}
 use Rattle.text.proofs.count_word.Goals as goal
 
 pub loop-i-preserved : goal.loop-i-preserved

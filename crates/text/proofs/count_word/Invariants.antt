@@ -1,11 +1,5 @@
-use borrow.Author.Rules.{rules}
-use native.Mathlib.Omega.{arith}
-use Prim.Native.Nat.{◌+◌, ◌-◌, ◌*◌}
-use mathlib.Core.Path.{◌≡◌}
-use lib.Dec.{eqb}
-use lib.ListN.{get_or}
-use Rattle.text.specs.Text.{kind_of}
-use Rattle.text.proofs.Rows.{Counted, counted_none, counted_more, counted_all, at_most_one}
+use Prim.Native.Nat.{◌-◌}
+use Rattle.text.proofs.Rows.{Counted}
 use Rattle.text.proofs.count_word.Given as goal
 
 -- `text::count_word` meets its contract. The loop's invariant: what is counted and the tally of what is left make the whole. Assumes nothing.

@@ -1,7 +1,6 @@
 use native.Mathlib.Nat.{add-zero}
 use lib.Seq.{get_or-drop}
 use Rattle.text.specs.Text.{row_of}
-use borrow.Author.Rules.{rules}
 use Rattle.text.proofs.row_at.Goals as goal
 
 pub returns : goal.returns

@@ -5,7 +5,6 @@ use borrow.Author.Tests.{le-leb, lt-leb}
 use Rattle.text.specs.Text.{file_text}
 use Rattle.text.specs.Writers.{room_for}
 use Rattle.text.proofs.Writing.{then, printed, printed_not}
-use borrow.Author.Rules.{rules}
 use Rattle.text.proofs.write_answers.Goals as goal
 
 pub returns-then-told-records : goal.returns-then-told-records

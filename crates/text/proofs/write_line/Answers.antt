@@ -1,7 +1,6 @@
 use native.Mathlib.Omega.{arith}
 use Rattle.text.specs.Text.{line}
 use Rattle.text.proofs.Writing.{then, roomier}
-use borrow.Author.Rules.{rules}
 use Rattle.text.proofs.write_line.Goals as goal
 
 pub returns : goal.returns

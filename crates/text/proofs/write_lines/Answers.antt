@@ -1,7 +1,6 @@
 use native.Mathlib.Omega.{arith}
-use Prim.Native.Nat.{◌-◌}
 use mathlib.Core.Path.{◌≡◌}
-use Rattle.text.proofs.Rows.{Lined, lined_none, lined_more, lined_all}
+use Rattle.text.proofs.Rows.{lined_none, lined_more, lined_all}
 use Rattle.text.proofs.write_lines.Goals as goal
 
 pub loop-i-init : goal.loop-i-init

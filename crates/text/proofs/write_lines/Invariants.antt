@@ -1,7 +1,5 @@
-use native.Mathlib.Omega.{arith}
 use Prim.Native.Nat.{◌-◌}
-use mathlib.Core.Path.{◌≡◌}
-use Rattle.text.proofs.Rows.{Lined, lined_none, lined_more, lined_all}
+use Rattle.text.proofs.Rows.{Lined}
 use Rattle.text.proofs.write_lines.Given as goal
 
 -- `text::write_lines` meets its contract. The loop's invariant: what is written and the lines of what is left make the whole. Assumes nothing.

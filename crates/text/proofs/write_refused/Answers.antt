@@ -4,7 +4,6 @@ use borrow.Author.Tests.{le-leb, lt-leb}
 use Rattle.text.specs.Text.{refused_text}
 use Rattle.text.specs.Writers.{room_for_refusal}
 use Rattle.text.proofs.Writing.{then, printed, printed_not}
-use borrow.Author.Rules.{rules}
 use Rattle.text.proofs.write_refused.Goals as goal
 
 -- `text::write_refused` meets its contract. Assumes nothing.

@@ -1,7 +1,6 @@
 use native.Mathlib.Omega.{arith}
 use Rattle.text.specs.Text.{tallies}
 use Rattle.text.proofs.Writing.{then}
-use borrow.Author.Rules.{rules}
 use Rattle.text.proofs.write_tallies.Goals as goal
 
 pub returns : goal.returns

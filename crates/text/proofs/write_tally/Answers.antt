@@ -1,7 +1,6 @@
 use native.Mathlib.Omega.{arith}
 use Rattle.text.specs.Text.{tallied}
 use Rattle.text.proofs.Writing.{then}
-use borrow.Author.Rules.{rules}
 use Rattle.text.proofs.write_tally.Goals as goal
 
 pub returns : goal.returns

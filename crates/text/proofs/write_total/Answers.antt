@@ -2,7 +2,6 @@ use native.Mathlib.Omega.{arith}
 use Rattle.text.specs.Text.{total}
 use Rattle.text.proofs.Writing.{then, roomier}
 use Rattle.text.proofs.Rows.{length_rows}
-use borrow.Author.Rules.{rules}
 use Rattle.text.proofs.write_total.Goals as goal
 
 pub returns : goal.returns

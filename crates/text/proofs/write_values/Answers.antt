@@ -2,7 +2,6 @@ use native.Mathlib.Omega.{arith}
 use mathlib.Core.Path.{sym, ◌∙◌}
 use Rattle.text.proofs.Writing.{then, roomier}
 use Rattle.text.proofs.Words.{values_refused, values_answered}
-use borrow.Author.Rules.{rules}
 use Rattle.text.proofs.write_values.Goals as goal
 
 pub returns-then-kind-eq0 : goal.returns-then-kind-eq0

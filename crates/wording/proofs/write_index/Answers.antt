@@ -1,5 +1,4 @@
 use lib.Dec.{lit≤}
-use borrow.Author.Rules.{rules}
 use native.Mathlib.Omega.{arith}
 use Rattle.text.proofs.Writing.{then, roomier}
 use Rattle.gap.specs.Grid.{index_most}

@@ -1,4 +1,3 @@
-use borrow.Author.Rules.{rules}
 use native.Mathlib.Omega.{arith}
 use Rattle.text.proofs.Writing.{then, roomier}
 use Rattle.wording.specs.Line.{two}

@@ -1,5 +1,5 @@
 use mir.Facts.{to_z-of_z}
-use borrow.Author.Rules.{rules, sfits_of}
+use borrow.Author.Rules.{sfits_of}
 use Rattle.answers.proofs.asking.four_in.Goals as goal
 
 pub returns : goal.returns

@@ -1,6 +1,5 @@
 use mathlib.Core.Path.{ap}
 use Rattle.rules.specs.declared.Record.{Record}
-use borrow.Author.Rules.{rules}
 use Rattle.answers.proofs.asking.id_at.Goals as goal
 
 pub returns : goal.returns

@@ -1,4 +1,3 @@
-use borrow.Author.Rules.{rules}
 use Rattle.answers.proofs.asking.meets_all.Goals as goal
 
 pub returns-then-meets_in-2 : goal.returns-then-meets_in-2

@@ -1,4 +1,3 @@
-use borrow.Author.Rules.{rules}
 use Rattle.answers.proofs.asking.meets_in.Goals as goal
 
 pub meets_axis-requires : goal.meets_axis-requires

@@ -1,4 +1,3 @@
-use borrow.Author.Rules.{rules}
 use Rattle.answers.proofs.asking.refusal_at.Goals as goal
 
 pub returns : goal.returns

@@ -9,7 +9,6 @@ use Rattle.rules.specs.Refusals.{search_refusal}
 use Rattle.rules.specs.Search.{query, origin, survives, search as searched}
 use Rattle.search.specs.Whole.{search_clear}
 use Rattle.search.proofs.Running.{search_refused, after_refusal, after_answer}
-use borrow.Author.Rules.{rules}
 use Rattle.answers.proofs.asking.search_at.Goals as goal
 
 pub returns-then-number-ne0 : goal.returns-then-number-ne0

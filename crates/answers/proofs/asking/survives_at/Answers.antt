@@ -1,6 +1,5 @@
 use mathlib.Core.Path.{◌∙◌}
 use Rattle.answers.specs.Asking.{asked_there, all_in_bytes}
-use borrow.Author.Rules.{rules}
 use Rattle.answers.proofs.asking.survives_at.Goals as goal
 
 pub meets_all-requires : goal.meets_all-requires

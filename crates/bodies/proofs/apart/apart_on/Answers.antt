@@ -3,7 +3,6 @@ use Rattle.gap.specs.declared.span.Span.{Span}
 use Rattle.gap.specs.Cube.{cube_of, cube_within, cube_most}
 use Rattle.gap.specs.Steps.{SmallSpan}
 use Rattle.bodies.specs.Between.{Further}
-use borrow.Author.Rules.{rules}
 use Rattle.bodies.proofs.apart.apart_on.Goals as goal
 
 pub over_cube-requires : goal.over_cube-requires

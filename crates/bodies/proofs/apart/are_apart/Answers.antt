@@ -5,7 +5,6 @@ use Rattle.whole.specs.Order.{lt_z_true}
 use Rattle.whole.specs.Read.{cast_back}
 use Rattle.whole.specs.Within.{fits, within_sub}
 use Rattle.bodies.specs.Between.{over, under}
-use borrow.Author.Rules.{rules}
 use Rattle.bodies.proofs.apart.are_apart.Goals as goal
 
 -- `bodies::apart::are_apart` meets its contract: on one side or the other. Assumes nothing.

@@ -1,6 +1,5 @@
 use Rattle.rules.specs.declared.Axis.TheVariants.{X, Y, Z}
 use Rattle.bodies.specs.Apart.{distant_from}
-use borrow.Author.Rules.{rules}
 use Rattle.bodies.proofs.apart.are_distant.Goals as goal
 
 pub returns-then-apart_on : goal.returns-then-apart_on

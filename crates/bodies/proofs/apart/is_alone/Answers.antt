@@ -1,10 +1,8 @@
-use Prim.Native.Nat.{ℕ, ◌+◌, ◌-◌, ◌*◌, ◌<◌}
-use mathlib.Core.Path.{◌≡◌, subst}
+use Prim.Native.Nat.{ℕ}
+use mathlib.Core.Path.{◌≡◌}
 use mathlib.Core.Bool.{true, false}
 use native.Mathlib.Omega.{arith}
-use borrow.Author.Rules.{rules}
-use borrow.Author.Tests.{not-false}
-use Rattle.bodies.specs.Passed.{Asunder, has_bound, Passed, passed_none, passed_one}
+use Rattle.bodies.specs.Passed.{has_bound, passed_none, passed_one}
 use Rattle.bodies.proofs.apart.is_alone.Goals as goal
 
 pub loop-block-init : goal.loop-block-init

@@ -1,10 +1,5 @@
-use Prim.Native.Nat.{ℕ, ◌+◌, ◌-◌, ◌*◌, ◌<◌}
-use mathlib.Core.Path.{◌≡◌, subst}
-use mathlib.Core.Bool.{true, false}
-use native.Mathlib.Omega.{arith}
-use borrow.Author.Rules.{rules}
-use borrow.Author.Tests.{not-false}
-use Rattle.bodies.specs.Passed.{Asunder, has_bound, Passed, passed_none, passed_one}
+use Prim.Native.Nat.{◌-◌, ◌*◌}
+use Rattle.bodies.specs.Passed.{Asunder, Passed}
 use Rattle.bodies.proofs.apart.is_alone.Given as goal
 
 -- `bodies::apart::is_alone` meets its contract. Assumes nothing.

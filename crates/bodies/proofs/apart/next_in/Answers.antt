@@ -1,8 +1,5 @@
-use Prim.Native.Nat.{◌-◌}
 use native.Mathlib.Omega.{arith}
-use borrow.Author.Tests.{not-false}
-use Rattle.bodies.specs.Apart.{DistantFrom}
-use Rattle.bodies.specs.Passed.{Passed, passed_none, passed_one}
+use Rattle.bodies.specs.Passed.{passed_none, passed_one}
 use Rattle.bodies.proofs.apart.next_in.Goals as goal
 
 pub loop-j-init : goal.loop-j-init

@@ -1,8 +1,6 @@
 use Prim.Native.Nat.{◌-◌}
-use native.Mathlib.Omega.{arith}
-use borrow.Author.Tests.{not-false}
 use Rattle.bodies.specs.Apart.{DistantFrom}
-use Rattle.bodies.specs.Passed.{Passed, passed_none, passed_one}
+use Rattle.bodies.specs.Passed.{Passed}
 use Rattle.bodies.proofs.apart.next_in.Given as goal
 
 -- `bodies::apart::next_in` meets its contract: triangle after triangle. Assumes nothing.

@@ -1,9 +1,6 @@
-use Prim.Native.Nat.{◌+◌, ◌-◌, ◌*◌, ◌/◌, ◌≤◌, ◌<◌}
+use Prim.Native.Nat.{◌/◌}
 use native.Mathlib.Omega.{arith}
-use borrow.Author.Rules.{rules}
-use borrow.Author.Tests.{not-false}
-use Rattle.bodies.specs.Apart.{DistantFrom}
-use Rattle.bodies.specs.Passed.{Passed, passed_none, passed_on, has_bounds, has_bound, block_distant}
+use Rattle.bodies.specs.Passed.{passed_none, passed_on, has_bounds, has_bound, block_distant}
 use Rattle.bodies.proofs.apart.next_near.Goals as goal
 
 pub loop-j-init : goal.loop-j-init

@@ -1,9 +1,6 @@
-use Prim.Native.Nat.{◌+◌, ◌-◌, ◌*◌, ◌/◌, ◌≤◌, ◌<◌}
-use native.Mathlib.Omega.{arith}
-use borrow.Author.Rules.{rules}
-use borrow.Author.Tests.{not-false}
+use Prim.Native.Nat.{◌-◌}
 use Rattle.bodies.specs.Apart.{DistantFrom}
-use Rattle.bodies.specs.Passed.{Passed, passed_none, passed_on, has_bounds, has_bound, block_distant}
+use Rattle.bodies.specs.Passed.{Passed}
 use Rattle.bodies.proofs.apart.next_near.Given as goal
 
 -- `bodies::apart::next_near` meets its contract. Assumes nothing.

@@ -1,8 +1,6 @@
-use Prim.Native.Nat.{◌+◌, ◌-◌, ◌*◌, ◌/◌, ◌≤◌, ◌<◌}
+use Prim.Native.Nat.{◌/◌}
 use native.Mathlib.Omega.{arith}
-use borrow.Author.Rules.{rules}
-use borrow.Author.Tests.{not-false}
-use Rattle.bodies.specs.Passed.{Passed, Alone, passed_none, passed_on, has_bound}
+use Rattle.bodies.specs.Passed.{passed_none, passed_on, has_bound}
 use Rattle.bodies.proofs.apart.next_row.Goals as goal
 
 pub loop-i-init : goal.loop-i-init

@@ -1,8 +1,5 @@
-use Prim.Native.Nat.{◌+◌, ◌-◌, ◌*◌, ◌/◌, ◌≤◌, ◌<◌}
-use native.Mathlib.Omega.{arith}
-use borrow.Author.Rules.{rules}
-use borrow.Author.Tests.{not-false}
-use Rattle.bodies.specs.Passed.{Passed, Alone, passed_none, passed_on, has_bound}
+use Prim.Native.Nat.{◌-◌}
+use Rattle.bodies.specs.Passed.{Passed, Alone}
 use Rattle.bodies.proofs.apart.next_row.Given as goal
 
 -- `bodies::apart::next_row` meets its contract. Assumes nothing.

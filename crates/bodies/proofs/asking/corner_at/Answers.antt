@@ -1,4 +1,3 @@
-use borrow.Author.Rules.{rules}
 use borrow.Author.Tests.{lt-ltb, le-ltb}
 use Rattle.bodies.specs.Asking.{corner_at}
 use Rattle.bodies.proofs.asking.corner_at.Goals as goal

@@ -1,4 +1,3 @@
-use borrow.Author.Rules.{rules}
 use Rattle.bodies.specs.Asking.{four_at}
 use Rattle.bodies.proofs.asking.four_at.Goals as goal
 

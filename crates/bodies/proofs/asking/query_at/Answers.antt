@@ -1,4 +1,3 @@
-use borrow.Author.Rules.{rules}
 use mathlib.Core.Path.{sym}
 use Rattle.bodies.proofs.asking.query_at.Goals as goal
 

@@ -1,4 +1,3 @@
-use borrow.Author.Rules.{rules}
 use Rattle.rules.specs.Bodies.{ask_of}
 use Rattle.bodies.specs.Asking.{four_at, corner_at}
 use Rattle.bodies.proofs.asking.query_of.Goals as goal

@@ -1,6 +1,5 @@
 use mathlib.Core.Path.{sym, ap}
 use Rattle.rules.specs.Bodies.{cap_of}
-use borrow.Author.Rules.{rules}
 use Rattle.bodies.proofs.hearing.cap_of.Goals as goal
 
 pub returns-in-Clear : goal.returns-in-Clear

@@ -1,7 +1,6 @@
 use mathlib.Core.Path.{sym, ap}
 use native.Mathlib.Omega.{arith}
 use Rattle.rules.specs.Bodies.{sum_of, counted}
-use borrow.Author.Rules.{rules}
 use Rattle.bodies.proofs.hearing.counted.Goals as goal
 
 pub overflow_add-result : goal.overflow_add-result

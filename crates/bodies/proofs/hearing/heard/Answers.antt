@@ -2,7 +2,6 @@ use mathlib.Core.Path.{sym, ◌∙◌}
 use native.Mathlib.Omega.{arith}
 use Rattle.bodies.proofs.Refusing.{both}
 use Rattle.bodies.proofs.Holder.{sum_least, takes_over, stays}
-use borrow.Author.Rules.{rules}
 use Rattle.bodies.proofs.hearing.heard.Goals as goal
 
 pub counted-requires : goal.counted-requires

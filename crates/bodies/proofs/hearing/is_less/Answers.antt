@@ -1,6 +1,5 @@
 use mathlib.Core.Path.{sym, ap}
 use Rattle.rules.specs.Bodies.{is_less}
-use borrow.Author.Rules.{rules}
 use Rattle.bodies.proofs.hearing.is_less.Goals as goal
 
 pub returns-in-Clear : goal.returns-in-Clear

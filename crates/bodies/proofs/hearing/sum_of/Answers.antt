@@ -1,6 +1,5 @@
 use mathlib.Core.Path.{sym, ap}
 use Rattle.rules.specs.Bodies.{sum_of}
-use borrow.Author.Rules.{rules}
 use Rattle.bodies.proofs.hearing.sum_of.Goals as goal
 
 pub returns-in-Clear : goal.returns-in-Clear

@@ -6,7 +6,6 @@ use Rattle.rules.specs.declared.BodyAnswer.{BodyAnswer}
 use Rattle.rules.specs.QueryFile.{put}
 use Rattle.little.specs.Put.{one_more}
 use Rattle.bodies.specs.Telling.{low, body_told}
-use borrow.Author.Rules.{rules}
 use Rattle.bodies.proofs.telling.write_told.Goals as goal
 
 pub returns-in-Clear : goal.returns-in-Clear

@@ -1,4 +1,3 @@
-use borrow.Author.Rules.{rules}
 use Rattle.bounds.specs.Lists.{bound_is}
 use Rattle.bounds.proofs.block.bound_at.Goals as goal
 

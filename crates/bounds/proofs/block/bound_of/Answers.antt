@@ -6,13 +6,12 @@ use Rattle.rules.specs.Search.{lesser, greater}
 use Rattle.rules.specs.Bounds.{size_of, over_triangles}
 use Rattle.bounds.specs.Block.{BlockIn}
 use native.Mathlib.Omega.{arith}
-use borrow.Author.Rules.{rules}
 use Rattle.bounds.proofs.block.bound_of.Goals as goal
 
 pub ends_on-x-requires : goal.ends_on-x-requires
 ends_on-x-requires c =
     let in_block : (p : ℕ) → p < 3 → BlockIn c.args.s.now c.args.e.now p (32 * c.args.block) c.block_end-end.result =
-        λ p l. record {
+    λ p l. record {
       is_axis = l;
       some = omega (arith, c.block_end-end.ensures, c.requires.there);
       few = omega (arith, c.block_end-end.ensures, c.requires.there, c.requires.few);
@@ -26,7 +25,7 @@ ends_on-x-requires c =
 pub ends_on-y-requires : goal.ends_on-y-requires
 ends_on-y-requires c =
     let in_block : (p : ℕ) → p < 3 → BlockIn c.args.s.now c.args.e.now p (32 * c.args.block) c.block_end-end.result =
-        λ p l. record {
+    λ p l. record {
       is_axis = l;
       some = omega (arith, c.block_end-end.ensures, c.requires.there);
       few = omega (arith, c.block_end-end.ensures, c.requires.there, c.requires.few);
@@ -40,7 +39,7 @@ ends_on-y-requires c =
 pub ends_on-z-requires : goal.ends_on-z-requires
 ends_on-z-requires c =
     let in_block : (p : ℕ) → p < 3 → BlockIn c.args.s.now c.args.e.now p (32 * c.args.block) c.block_end-end.result =
-        λ p l. record {
+    λ p l. record {
       is_axis = l;
       some = omega (arith, c.block_end-end.ensures, c.requires.there);
       few = omega (arith, c.block_end-end.ensures, c.requires.there, c.requires.few);

@@ -1,17 +1,15 @@
-use Prim.Native.Nat.{ℕ, ◌+◌, ◌-◌, ◌*◌, ◌≤◌, ◌<◌}
+use Prim.Native.Nat.{ℕ, ◌+◌, ◌*◌}
 use mathlib.Core.Path.{◌≡◌, refl, sym, ap, subst, ◌∙◌}
 use mathlib.Core.Logic.{inl}
 use native.Mathlib.Omega.{arith}
-use borrow.Author.Rules.{rules, sfits_of}
-use lib.IntN.{ℤ, pos}
+use borrow.Author.Rules.{sfits_of}
+use lib.IntN.{pos}
 use lib.ListN.{get_or}
 use mir.Val.{SFits, to_z}
 use mir.Syntax.{w32}
 use mir.Facts.{to_z-of_z}
 use Rattle.whole.specs.Defs.{min_z, max_z}
 use Rattle.whole.specs.Read.{back}
-use Rattle.rules.specs.declared.Axis.{Axis}
-use Rattle.rules.specs.Gap.{place}
 use Rattle.rules.specs.Bounds.{over_face}
 use Rattle.bounds.specs.Block.{FaceIn, Picked, picked_more, picked_all, least_absorbs, greatest_absorbs}
 use Rattle.bounds.proofs.block.ends_on.Goals as goal
@@ -31,7 +29,7 @@ loop-i-init c =
 pub triangle_least-requires : goal.triangle_least-requires
 triangle_least-requires c =
     let faces : FaceIn c.args.s.now (9 * c.loop-i.i + c.args.axis) × FaceIn c.args.e.now (9 * c.loop-i.i + c.args.axis) =
-        let at = 9 * c.loop-i.i + c.args.axis in (
+    let at = 9 * c.loop-i.i + c.args.axis in (
       record { there = omega (arith, c.requires.start_there, c.requires.is_axis); first = c.requires.start at (omega (arith, c.loop-i.invariant.0)) (omega (arith, c.requires.is_axis)); second = c.requires.start (at + 3) (omega (arith, c.loop-i.invariant.0)) (omega (arith, c.requires.is_axis)); third = c.requires.start (at + 6) (omega (arith, c.loop-i.invariant.0)) (omega (arith, c.requires.is_axis)) },
       record { there = omega (arith, c.requires.end_there, c.requires.is_axis); first = c.requires.end at (omega (arith, c.loop-i.invariant.0)) (omega (arith, c.requires.is_axis)); second = c.requires.end (at + 3) (omega (arith, c.loop-i.invariant.0)) (omega (arith, c.requires.is_axis)); third = c.requires.end (at + 6) (omega (arith, c.loop-i.invariant.0)) (omega (arith, c.requires.is_axis)) },
     ) in
@@ -40,7 +38,7 @@ triangle_least-requires c =
 pub triangle_greatest-requires : goal.triangle_greatest-requires
 triangle_greatest-requires c =
     let faces : FaceIn c.args.s.now (9 * c.loop-i.i + c.args.axis) × FaceIn c.args.e.now (9 * c.loop-i.i + c.args.axis) =
-        let at = 9 * c.loop-i.i + c.args.axis in (
+    let at = 9 * c.loop-i.i + c.args.axis in (
       record { there = omega (arith, c.requires.start_there, c.requires.is_axis); first = c.requires.start at (omega (arith, c.loop-i.invariant.0)) (omega (arith, c.requires.is_axis)); second = c.requires.start (at + 3) (omega (arith, c.loop-i.invariant.0)) (omega (arith, c.requires.is_axis)); third = c.requires.start (at + 6) (omega (arith, c.loop-i.invariant.0)) (omega (arith, c.requires.is_axis)) },
       record { there = omega (arith, c.requires.end_there, c.requires.is_axis); first = c.requires.end at (omega (arith, c.loop-i.invariant.0)) (omega (arith, c.requires.is_axis)); second = c.requires.end (at + 3) (omega (arith, c.loop-i.invariant.0)) (omega (arith, c.requires.is_axis)); third = c.requires.end (at + 6) (omega (arith, c.loop-i.invariant.0)) (omega (arith, c.requires.is_axis)) },
     ) in

@@ -1,14 +1,13 @@
-use borrow.Author.Rules.{rules, sfits_of}
+use borrow.Author.Rules.{sfits_of}
 use mir.Val.{SFits}
 use mir.Syntax.{w32}
-use mathlib.Core.Path.{◌≡◌, ap₂, ◌∙◌}
-use lib.IntN.{ℤ, pos, ◌+ℤ◌, ◌-ℤ◌}
+use mathlib.Core.Path.{ap₂, ◌∙◌}
+use lib.IntN.{pos, ◌+ℤ◌, ◌-ℤ◌}
 use lib.ListN.{get_or}
 use Prim.Native.Nat.{◌+◌}
 use mir.Facts.{to_z-of_z}
 use Rattle.whole.specs.Defs.{min_z}
 use Rattle.whole.specs.Read.{back, back₂}
-use Rattle.bounds.specs.Block.{Small}
 use Rattle.bounds.proofs.block.face_least.Goals as goal
 
 pub fourth-requires : goal.fourth-requires

@@ -2,9 +2,7 @@ use borrow.Author.Rules.{rules}
 use lib.IntN.{ℤ, ◌+ℤ◌, ◌-ℤ◌}
 use mir.Syntax.{w32}
 use mir.Val.{SFits}
-use mir.Facts.{to_z-of_z}
-use mathlib.Core.Path.{◌∙◌}
-use Rattle.whole.specs.Within.{Within, fits, within_add, within_sub}
+use Rattle.whole.specs.Within.{fits, within_add, within_sub}
 use Rattle.bounds.specs.Block.{Small}
 use Rattle.bounds.proofs.block.fourth.Goals as goal
 

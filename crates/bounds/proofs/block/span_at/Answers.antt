@@ -1,4 +1,4 @@
-use borrow.Author.Rules.{rules, sfits_of}
+use borrow.Author.Rules.{sfits_of}
 use mir.Val.{SFits}
 use mir.Syntax.{w32, w64}
 use mir.Facts.{to_z-of_z}

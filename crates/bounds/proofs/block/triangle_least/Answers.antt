@@ -1,4 +1,3 @@
-use borrow.Author.Rules.{rules}
 use mir.Syntax.{w32}
 use mathlib.Core.Path.{ap₂, ◌∙◌}
 use Rattle.whole.specs.Defs.{min_z}

@@ -1,5 +1,4 @@
 use native.Mathlib.Omega.{arith}
-use borrow.Author.Rules.{rules}
 use lib.Seq.{lt-length-set}
 use Rattle.bounds.proofs.block.write_span.Goals as goal
 

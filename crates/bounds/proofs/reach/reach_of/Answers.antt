@@ -1,6 +1,5 @@
 use Rattle.gap.specs.Cube.{cube_within}
 use Rattle.bounds.specs.Reach.{reach_is}
-use borrow.Author.Rules.{rules}
 use Rattle.bounds.proofs.reach.reach_of.Goals as goal
 
 pub over_cube-x-requires : goal.over_cube-x-requires

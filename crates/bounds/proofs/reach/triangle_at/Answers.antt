@@ -1,4 +1,4 @@
-use borrow.Author.Rules.{rules, sfits_of}
+use borrow.Author.Rules.{sfits_of}
 use mir.Val.{SFits}
 use mathlib.Core.Path.{◌≡◌}
 use lib.Dec.{lit≤}

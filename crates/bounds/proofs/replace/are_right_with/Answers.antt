@@ -1,6 +1,5 @@
 use mathlib.Core.Path.{ap₂, ◌∙◌}
 use mathlib.Core.Bool.{◌&&◌}
-use borrow.Author.Rules.{rules}
 use Rattle.rules.specs.Numbers.{limits_of, is_coordinate}
 use Rattle.bounds.specs.Parts.{every_put}
 use Rattle.bounds.proofs.replace.are_right_with.Goals as goal

@@ -1,16 +1,7 @@
-use Prim.Native.Nat.{ℕ, suc, ◌+◌, ◌-◌, ◌≤◌}
-use mathlib.Core.Path.{◌≡◌, refl, sym, ap, ◌∙◌}
-use mathlib.Core.List.{[], ◌∷◌}
-use native.Mathlib.Omega.{arith}
-use borrow.Author.Rules.{rules, sfits_of}
-use mir.Syntax.{w32}
-use mir.Val.{SFits}
-use mir.Facts.{to_z-of_z}
-use lib.IntN.{pos}
-use lib.ListN.{length, set, get_or, take, length-set}
-use lib.Seq.{length-take-le, take-suc, take-length}
+use Prim.Native.Nat.{◌-◌, ◌≤◌}
+use mathlib.Core.Path.{◌≡◌}
+use lib.ListN.{length, take}
 use Rattle.rules.specs.QueryFile.{put}
-use Rattle.little.specs.Put.{put_nil, put_one, one_more}
 use Rattle.bounds.proofs.replace.copy_in.Given as goal
 
 -- `bounds::replace::copy_in` meets its contract. Assumes nothing.

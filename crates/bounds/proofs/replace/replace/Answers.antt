@@ -1,6 +1,5 @@
 use mathlib.Core.Path.{◌≡◌, sym, ◌∙◌}
 use native.Mathlib.Omega.{arith}
-use borrow.Author.Rules.{rules}
 use Rattle.rules.specs.Bounds.{block_of, replaced}
 use Rattle.bounds.specs.Reach.{body}
 use Rattle.bounds.specs.Keeping.{exchange_refusal}
@@ -16,7 +15,7 @@ returns-then-number-ne0 c =
 pub exchange-requires : goal.exchange-requires
 exchange-requires c =
     let taken : exchange_refusal c.args.edition (body c.args.count c.args.start.now c.args.end.now) c.args.bounds.now c.args.n c.args.corners.now ≡ 0 =
-        sym c.replace_refusal-number.ensures ∙ c.if-number-ne0.false in
+    sym c.replace_refusal-number.ensures ∙ c.if-number-ne0.false in
     let m = body c.args.count c.args.start.now c.args.end.now in
     let h = replaceable c.args.edition m c.args.bounds.now c.args.n c.args.corners.now (exchange_taken c.args.edition m c.args.bounds.now c.args.n c.args.corners.now (taken)) in
     record {
@@ -30,5 +29,5 @@ exchange-requires c =
 pub returns : goal.returns
 returns c =
     let taken : exchange_refusal c.args.edition (body c.args.count c.args.start.now c.args.end.now) c.args.bounds.now c.args.n c.args.corners.now ≡ 0 =
-        sym c.replace_refusal-number.ensures ∙ c.if-number-ne0.false in
+    sym c.replace_refusal-number.ensures ∙ c.if-number-ne0.false in
     replaces (sym (taken)) c.exchange.ensures

@@ -1,5 +1,4 @@
 use Rattle.controller.proofs.Writing.{puts}
-use borrow.Author.Rules.{rules}
 use Rattle.controller.proofs.answer_file.taperhive_log_trailer.Goals as goal
 
 pub returns : goal.returns

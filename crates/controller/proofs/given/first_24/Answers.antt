@@ -1,4 +1,4 @@
-use Prim.Native.Nat.{ℕ, ◌+◌, ◌-◌, ◌≤◌, ◌<◌}
+use Prim.Native.Nat.{ℕ, ◌+◌, ◌<◌}
 use mathlib.Core.Path.{◌≡◌, refl, sym, ap, ◌∙◌, subst}
 use mathlib.Core.List.{List, [], ◌∷◌, ◌++◌}
 use native.Mathlib.Omega.{arith}
@@ -22,6 +22,7 @@ each_more (x ∷ zs) z h f = (h.0, each_more zs z h.1 f)
 module _ (p numbers : List ℤ) (i : ℕ) (same : take i p ≡ take i numbers) (each : Each (take i numbers)) (f : SFits w32 (get_or numbers i (pos 0))) where
   next : i < length numbers → take (i + 1) numbers ≡ take i numbers ++ (get_or numbers i (pos 0) ∷ [])
   next h = ap (λ (n : ℕ). take n numbers) (add-one i) ∙ take-suc numbers i (pos 0) h
+
   more : i < length p → i < length numbers → take (i + 1) (set p i (to_z w32 (of_z w32 (get_or numbers i (pos 0))))) ≡ take (i + 1) numbers
   more h k =
       ap (λ (n : ℕ). take n (set p i (to_z w32 (of_z w32 (get_or numbers i (pos 0)))))) (add-one i)
@@ -29,6 +30,7 @@ module _ (p numbers : List ℤ) (i : ℕ) (same : take i p ≡ take i numbers) (
       ∙ ap (λ (z : ℤ). take i p ++ (z ∷ [])) (to_z-of_z f)
       ∙ ap (λ (l : List ℤ). l ++ (get_or numbers i (pos 0) ∷ [])) same
       ∙ sym (next k)
+
   each_next : i < length numbers → Each (take (i + 1) numbers)
   each_next k = subst Each (sym (next k)) (each_more (take i numbers) (get_or numbers i (pos 0)) each f)
 

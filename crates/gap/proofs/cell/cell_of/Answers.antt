@@ -1,6 +1,5 @@
 use native.Mathlib.Omega.{arith}
 use Rattle.gap.specs.Grid.{whole_is, index_most, in_parts_of}
-use borrow.Author.Rules.{rules}
 use mathlib.Core.Path.{refl}
 use Rattle.gap.proofs.cell.cell_of.Goals as goal
 

@@ -1,4 +1,3 @@
-use borrow.Author.Rules.{rules}
 use native.Mathlib.Omega.{arith}
 use Rattle.gap.specs.Grid.{low_fits}
 use Rattle.gap.proofs.cell.low.Goals as goal

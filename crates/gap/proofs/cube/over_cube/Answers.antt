@@ -1,4 +1,3 @@
-use borrow.Author.Rules.{rules}
 use mathlib.Core.Path.{◌≡◌, ap₂, ◌∙◌}
 use lib.IntN.{ℤ}
 use mir.Syntax.{w64}

@@ -1,4 +1,3 @@
-use borrow.Author.Rules.{rules}
 use lib.Dec.{lit≤}
 use lib.IntN.{ℤ, pos}
 use mir.Facts.{to_z-of_z}
@@ -15,14 +14,13 @@ small : {x : ℤ} → Within 4_294_967_296 x → SmallSpan term_most (span_of (p
 small h = span_small (within_more (lit≤ tt) (within_pos 0)) (wide h)
 
 pub sum-requires : goal.sum-requires
-sum-requires c =
-    (
-      rw (to_z-of_z (fits tt c.requires.0)) (wide c.requires.0),
-      (
-        rw (c.term-u.ensures, to_z-of_z (fits tt c.requires.1.0)) (small c.requires.1.0),
-        rw (c.term-v.ensures, to_z-of_z (fits tt c.requires.1.1)) (small c.requires.1.1),
-      ),
-    )
+sum-requires c = (
+  rw (to_z-of_z (fits tt c.requires.0)) (wide c.requires.0),
+  (
+    rw (c.term-u.ensures, to_z-of_z (fits tt c.requires.1.0)) (small c.requires.1.0),
+    rw (c.term-v.ensures, to_z-of_z (fits tt c.requires.1.1)) (small c.requires.1.1),
+  ),
+)
 
 pub returns : goal.returns
 returns c =

@@ -1,6 +1,5 @@
 use mathlib.Core.Path.{◌≡◌}
 use mathlib.Core.Bool.{◌&&◌}
-use borrow.Author.Rules.{rules}
 use Rattle.kernel.specs.declared.Pair.{Pair}
 use Rattle.gap.specs.declared.cell.Cell.{Cell}
 use Rattle.gap.specs.Corners.{is_narrow, is_thin}

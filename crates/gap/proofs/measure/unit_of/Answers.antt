@@ -1,5 +1,4 @@
 use native.Mathlib.Omega.{arith}
-use borrow.Author.Rules.{rules}
 use Rattle.gap.specs.Steps.{unit_most}
 use Rattle.gap.proofs.measure.unit_of.Goals as goal
 

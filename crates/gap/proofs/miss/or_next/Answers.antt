@@ -1,4 +1,3 @@
-use borrow.Author.Rules.{rules}
 use Rattle.gap.proofs.miss.or_next.Goals as goal
 
 pub returns-in-On : goal.returns-in-On

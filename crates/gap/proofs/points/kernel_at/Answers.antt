@@ -1,4 +1,3 @@
-use borrow.Author.Rules.{rules}
 use Rattle.gap.specs.Points.{four_near}
 use Rattle.gap.proofs.points.kernel_at.Goals as goal
 

@@ -1,7 +1,6 @@
 use mir.Facts.{to_z-of_z}
 use Rattle.whole.specs.Within.{within_add, fits}
 use Rattle.gap.specs.Steps.{read_part}
-use borrow.Author.Rules.{rules}
 use Rattle.gap.proofs.slab.along.Goals as goal
 
 pub overflow_mul-result : goal.overflow_mul-result

@@ -4,7 +4,6 @@ use Rattle.whole.specs.Within.{within_sub, within_pos, fits}
 use Rattle.gap.specs.Steps.{part_most, read_part, term_within}
 use Rattle.gap.specs.Slab.{edges_within}
 use Rattle.gap.specs.Bounds.{span_within}
-use borrow.Author.Rules.{rules}
 use Rattle.gap.proofs.slab.edge_of.Goals as goal
 
 pub overflow_mul-u : goal.overflow_mul-u

@@ -1,7 +1,6 @@
 use mir.Facts.{to_z-of_z}
 use Rattle.whole.specs.Within.{within_add, fits}
 use Rattle.gap.specs.Slab.{meets_strip}
-use borrow.Author.Rules.{rules}
 use Rattle.gap.proofs.slab.meets_strip.Goals as goal
 
 pub returns : goal.returns

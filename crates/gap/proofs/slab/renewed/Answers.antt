@@ -1,4 +1,3 @@
-use borrow.Author.Rules.{rules}
 use mathlib.Core.Path.{ap, ◌∙◌}
 use Rattle.gap.specs.Slab.{slab_of}
 use Rattle.gap.proofs.slab.renewed.Goals as goal

@@ -1,4 +1,3 @@
-use borrow.Author.Rules.{rules}
 use lib.Pow.{pow_pos}
 use Rattle.gap.specs.Grid.{over_of}
 use Rattle.gap.specs.Slab.{slab_is}

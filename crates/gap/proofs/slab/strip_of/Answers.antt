@@ -1,4 +1,3 @@
-use borrow.Author.Rules.{rules}
 use mir.Syntax.{w64}
 use Rattle.whole.specs.Read.{back}
 use Rattle.gap.specs.Slab.{limit_within}

@@ -1,4 +1,3 @@
-use borrow.Author.Rules.{rules}
 use mathlib.Core.Path.{◌≡◌}
 use Prim.Native.Nat.{ℕ, ◌+◌, ◌^◌, ◌<◌, ◌≤◌}
 use native.Mathlib.Omega.{arith}
@@ -18,9 +17,11 @@ use Rattle.gap.proofs.span.at_moment.Goals as goal
 module _ {C q t : ℕ} {x y : ℤ} (h : Held C q) (ht : t ≤ q) (hx : Within (C + C) x) (hy : Within (C + C) y) where
   part : to_z w64 t ≡ pos t
   part = read_part (omega (arith, h.parts_most))
+
   -- what a call of `blend` asks, and what it gives, of numbers that are read back from their bits
   asked : Blends (to_z w64 q) (to_z w64 t) (to_z w64 (of_z w64 x)) (to_z w64 (of_z w64 y))
   asked = rw (read_part h.parts_most, part, to_z-of_z (fits tt (number_within h hx)), to_z-of_z (fits tt (number_within h hy))) (blends h ht hx hy)
+
   told : {z : ℤ} → mag z < 2 ^ 63 → z ≡ blended (to_z w64 q) (to_z w64 t) (to_z w64 (of_z w64 x)) (to_z w64 (of_z w64 y)) → to_z w64 (of_z w64 z) ≡ blended (pos q) (pos t) x y
   told g e = back w64 g (rw (read_part h.parts_most, part, to_z-of_z (fits tt (number_within h hx)), to_z-of_z (fits tt (number_within h hy))) at e)
 

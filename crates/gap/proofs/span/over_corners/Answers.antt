@@ -1,4 +1,3 @@
-use borrow.Author.Rules.{rules}
 use mathlib.Core.Path.{◌∙◌}
 use Rattle.gap.specs.Affine.{span_over_lem}
 use Rattle.gap.specs.Steps.{moment_fine}

@@ -1,4 +1,3 @@
-use borrow.Author.Rules.{rules}
 use mir.Syntax.{w64}
 use mir.Facts.{to_z-of_z}
 use Rattle.whole.specs.Defs.{min_z, max_z}

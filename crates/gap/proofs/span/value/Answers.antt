@@ -1,4 +1,3 @@
-use borrow.Author.Rules.{rules}
 use native.Mathlib.Nat.{le_trans}
 use mir.Facts.{to_z-of_z}
 use Rattle.whole.specs.Within.{fits}

@@ -1,4 +1,3 @@
-use borrow.Author.Rules.{rules}
 use mathlib.Core.Path.{◌∙◌}
 use Rattle.gap.specs.Spread.{none, full, numbers, change_small, spread_t}
 use Rattle.gap.proofs.weigh.spread_t.Goals as goal
@@ -14,56 +13,52 @@ pub change-z-requires : goal.change-z-requires
 change-z-requires c = numbers c.requires.z
 
 pub way-requires : goal.way-requires
-way-requires c =
+way-requires c = (
+  none,
+  (
+    none,
     (
-      none,
-      (
-        none,
-        (
-          rw c.change-x.ensures (change_small (numbers c.requires.x)),
-          (rw c.change-y.ensures (change_small (numbers c.requires.y)), rw c.change-z.ensures (change_small (numbers c.requires.z))),
-        ),
-      ),
-    )
+      rw c.change-x.ensures (change_small (numbers c.requires.x)),
+      (rw c.change-y.ensures (change_small (numbers c.requires.y)), rw c.change-z.ensures (change_small (numbers c.requires.z))),
+    ),
+  ),
+)
 
 pub way-requires-2 : goal.way-requires-2
-way-requires-2 c =
+way-requires-2 c = (
+  none,
+  (
+    full,
     (
-      none,
-      (
-        full,
-        (
-          rw c.change-x.ensures (change_small (numbers c.requires.x)),
-          (rw c.change-y.ensures (change_small (numbers c.requires.y)), rw c.change-z.ensures (change_small (numbers c.requires.z))),
-        ),
-      ),
-    )
+      rw c.change-x.ensures (change_small (numbers c.requires.x)),
+      (rw c.change-y.ensures (change_small (numbers c.requires.y)), rw c.change-z.ensures (change_small (numbers c.requires.z))),
+    ),
+  ),
+)
 
 pub way-requires-3 : goal.way-requires-3
-way-requires-3 c =
+way-requires-3 c = (
+  full,
+  (
+    none,
     (
-      full,
-      (
-        none,
-        (
-          rw c.change-x.ensures (change_small (numbers c.requires.x)),
-          (rw c.change-y.ensures (change_small (numbers c.requires.y)), rw c.change-z.ensures (change_small (numbers c.requires.z))),
-        ),
-      ),
-    )
+      rw c.change-x.ensures (change_small (numbers c.requires.x)),
+      (rw c.change-y.ensures (change_small (numbers c.requires.y)), rw c.change-z.ensures (change_small (numbers c.requires.z))),
+    ),
+  ),
+)
 
 pub way-requires-4 : goal.way-requires-4
-way-requires-4 c =
+way-requires-4 c = (
+  full,
+  (
+    full,
     (
-      full,
-      (
-        full,
-        (
-          rw c.change-x.ensures (change_small (numbers c.requires.x)),
-          (rw c.change-y.ensures (change_small (numbers c.requires.y)), rw c.change-z.ensures (change_small (numbers c.requires.z))),
-        ),
-      ),
-    )
+      rw c.change-x.ensures (change_small (numbers c.requires.x)),
+      (rw c.change-y.ensures (change_small (numbers c.requires.y)), rw c.change-z.ensures (change_small (numbers c.requires.z))),
+    ),
+  ),
+)
 
 pub returns : goal.returns
 returns c =

@@ -1,4 +1,3 @@
-use borrow.Author.Rules.{rules}
 use mathlib.Core.Path.{◌∙◌}
 use mir.Facts.{to_z-of_z}
 use Rattle.whole.specs.Within.{fits}

@@ -1,4 +1,3 @@
-use borrow.Author.Rules.{rules}
 use mir.Facts.{to_z-of_z}
 use Rattle.whole.specs.Within.{fits}
 use Rattle.gap.proofs.weigh.step.Goals as goal

@@ -1,5 +1,4 @@
 use Rattle.rules.specs.QueryFile.{record_by}
-use borrow.Author.Rules.{rules}
 use Rattle.queries.proofs.record.decode_wide.Goals as goal
 
 pub returns : goal.returns

@@ -6,7 +6,6 @@ use lib.ListN.{length}
 use Rattle.little.specs.Put.{one_more}
 use Rattle.rules.specs.QueryFile.{word_bytes}
 use Rattle.rules.specs.QueryFile.{bytes_by, coordinate_bytes}
-use borrow.Author.Rules.{rules}
 use Rattle.queries.proofs.record.encode_narrow.Goals as goal
 
 pub returns : goal.returns

@@ -5,7 +5,6 @@ use native.Mathlib.Omega.{arith}
 use lib.ListN.{length}
 use Rattle.little.specs.Put.{one_more}
 use Rattle.rules.specs.QueryFile.{word_bytes, coordinate_bytes, bytes_by}
-use borrow.Author.Rules.{rules}
 use Rattle.queries.proofs.record.encode_wide.Goals as goal
 
 pub returns : goal.returns

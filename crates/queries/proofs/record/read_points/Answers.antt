@@ -1,11 +1,10 @@
 use mir.Syntax.{w32}
 use mir.Facts.{to_z-of_z}
 use borrow.Author.Rules.{sfits_of}
-use Rattle.queries.specs.Coordinates.{read_more, read_end}
-use Prim.Native.Nat.{ℕ, ◌≤◌, ◌-◌}
-use mathlib.Core.Path.{◌≡◌, refl, ◌∙◌, subst}
+use Rattle.queries.specs.Coordinates.{read_more}
+use mathlib.Core.Path.{refl, ◌∙◌}
 use native.Mathlib.Omega.{arith}
-use lib.ListN.{length, take, length-set}
+use lib.ListN.{length-set}
 use Rattle.rules.specs.QueryFile.{coordinates_at}
 use Rattle.queries.proofs.record.read_points.Goals as goal
 
@@ -14,9 +13,8 @@ unfolding coordinates_at
 loop-i-init c = (omega arith, refl, refl)
 
 pub loop-i-preserved : goal.loop-i-preserved
-loop-i-preserved c =
-    (
-      omega arith,
-      simp length-set c.loop-i.invariant.1,
-      read_more _ _ c.loop-i.p c.loop-i.i c.loop-i.invariant.2 _ (omega arith) (to_z-of_z {w = w32} (sfits_of c.read_i32.type_inv) ∙ c.read_i32.ensures),
-    )
+loop-i-preserved c = (
+  omega arith,
+  simp length-set c.loop-i.invariant.1,
+  read_more _ _ c.loop-i.p c.loop-i.i c.loop-i.invariant.2 _ (omega arith) (to_z-of_z {w = w32} (sfits_of c.read_i32.type_inv) ∙ c.read_i32.ensures),
+)

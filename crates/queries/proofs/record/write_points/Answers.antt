@@ -2,17 +2,13 @@ use mir.Val.{SFits}
 use mir.Syntax.{w32}
 use mir.Val.{to_z, of_z}
 use mir.Facts.{to_z-of_z}
-use Rattle.queries.specs.Coordinates.{write_length, write_more}
+use Rattle.queries.specs.Coordinates.{write_more}
 use borrow.Author.Rules.{rules}
 use Rattle.little.specs.Put.{put_nil}
-use Prim.Native.Nat.{ℕ, ◌≤◌, ◌-◌}
-use mathlib.Core.List.{List}
-use lib.IntN.{ℤ, pos}
-use lib.Seq.{take-length}
-use mathlib.Core.Path.{◌≡◌, sym, ap, ◌∙◌}
+use lib.IntN.{pos}
+use mathlib.Core.Path.{sym}
 use native.Mathlib.Omega.{arith}
-use lib.ListN.{length, take, get_or}
-use Rattle.rules.specs.QueryFile.{put}
+use lib.ListN.{get_or}
 use Rattle.rules.specs.QueryFile.{coordinate_bytes}
 use Rattle.queries.proofs.record.write_points.Goals as goal
 
@@ -22,8 +18,7 @@ loop-i-init c = (omega arith, sym (put_nil _ _))
 
 pub loop-i-preserved : goal.loop-i-preserved
 loop-i-preserved c =
-    let fits : SFits w32 (get_or c.args.p c.loop-i.i (pos 0)) = search rules in
-    (
+    let fits : SFits w32 (get_or c.args.p c.loop-i.i (pos 0)) = search rules in (
       omega arith,
       write_more c.args.s.now c.args.at c.args.p c.loop-i.i (omega arith) c.loop-i.s c.write_i32.new.s
           (to_z w32 (of_z w32 (get_or c.args.p c.loop-i.i (pos 0)))) (omega arith) c.loop-i.invariant.1

@@ -1,5 +1,4 @@
 use Rattle.rules.specs.AnswerFile.{told_at}
-use borrow.Author.Rules.{rules}
 use Rattle.shift_log.proofs.entry.decode.Goals as goal
 
 pub returns : goal.returns

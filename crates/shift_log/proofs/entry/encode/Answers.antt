@@ -6,7 +6,6 @@ use lib.ListN.{length}
 use Rattle.little.specs.Put.{one_more}
 use Rattle.rules.specs.QueryFile.{word_bytes}
 use Rattle.rules.specs.AnswerFile.{entry_bytes}
-use borrow.Author.Rules.{rules}
 use Rattle.shift_log.proofs.entry.encode.Goals as goal
 
 pub returns : goal.returns

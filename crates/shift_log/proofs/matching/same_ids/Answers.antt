@@ -1,8 +1,6 @@
-use Prim.Native.Nat.{◌+◌}
 use mathlib.Core.Path.{refl}
 use native.Mathlib.Omega.{arith}
-use Rattle.rules.specs.AnswerFile.{same_ids}
-use Rattle.shift_log.proofs.Ids.{Left, left_there, left_more, left_none}
+use Rattle.shift_log.proofs.Ids.{left_there, left_more, left_none}
 use Rattle.shift_log.proofs.matching.same_ids.Goals as goal
 
 pub loop-left-init : goal.loop-left-init

@@ -1,8 +1,6 @@
 use Prim.Native.Nat.{◌+◌}
-use mathlib.Core.Path.{refl}
-use native.Mathlib.Omega.{arith}
 use Rattle.rules.specs.AnswerFile.{same_ids}
-use Rattle.shift_log.proofs.Ids.{Left, left_there, left_more, left_none}
+use Rattle.shift_log.proofs.Ids.{Left}
 use Rattle.shift_log.proofs.matching.same_ids.Given as goal
 
 -- `shift_log::matching::same_ids` meets its contract: those that are left, and whether all before agree. Assumes nothing.

@@ -1,7 +1,6 @@
 use mathlib.Core.Path.{refl}
 use native.Mathlib.Omega.{arith}
-use Rattle.shift_log.specs.Calls.{are_taken}
-use Rattle.shift_log.proofs.Every.{Looked, looked_more, looked_all}
+use Rattle.shift_log.proofs.Every.{looked_more, looked_all}
 use Rattle.shift_log.proofs.telling.are_taken.Goals as goal
 
 pub loop-left-init : goal.loop-left-init

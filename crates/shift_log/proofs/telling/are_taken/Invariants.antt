@@ -1,7 +1,5 @@
-use mathlib.Core.Path.{refl}
-use native.Mathlib.Omega.{arith}
 use Rattle.shift_log.specs.Calls.{are_taken}
-use Rattle.shift_log.proofs.Every.{Looked, looked_more, looked_all}
+use Rattle.shift_log.proofs.Every.{Looked}
 use Rattle.shift_log.proofs.telling.are_taken.Given as goal
 
 -- `shift_log::telling::are_taken` meets its contract: those that are left, and whether all before can be read. Assumes nothing.

@@ -3,7 +3,6 @@ use mathlib.Core.Path.{sym, ap, ◌∙◌}
 use lib.Dec.{eqb}
 use Rattle.rules.specs.AnswerFile.{word_cases, word_refusal}
 use Rattle.refusals.specs.Cases.{first_alone}
-use borrow.Author.Rules.{rules}
 use Rattle.shift_log.proofs.telling.is_taken.Goals as goal
 
 pub returns : goal.returns

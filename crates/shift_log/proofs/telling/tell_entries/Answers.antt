@@ -1,7 +1,6 @@
-use Prim.Native.Nat.{◌-◌}
 use mathlib.Core.Path.{refl}
 use native.Mathlib.Omega.{arith}
-use Rattle.shift_log.proofs.Every.{ToldSoFar, told_none, told_one, told_all}
+use Rattle.shift_log.proofs.Every.{told_none, told_one, told_all}
 use Rattle.shift_log.proofs.telling.tell_entries.Goals as goal
 
 pub loop-i-init : goal.loop-i-init

@@ -1,7 +1,5 @@
 use Prim.Native.Nat.{◌-◌}
-use mathlib.Core.Path.{refl}
-use native.Mathlib.Omega.{arith}
-use Rattle.shift_log.proofs.Every.{ToldSoFar, told_none, told_one, told_all}
+use Rattle.shift_log.proofs.Every.{ToldSoFar}
 use Rattle.shift_log.proofs.telling.tell_entries.Given as goal
 
 -- `shift_log::telling::tell_entries` meets its contract: answer after answer. Assumes nothing.

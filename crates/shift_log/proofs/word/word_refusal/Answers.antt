@@ -1,5 +1,4 @@
 use Rattle.refusals.specs.Cases.{first_or}
-use borrow.Author.Rules.{rules}
 use Rattle.shift_log.proofs.word.word_refusal.Goals as goal
 
 pub returns : goal.returns

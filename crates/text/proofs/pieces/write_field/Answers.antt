@@ -1,7 +1,6 @@
 use native.Mathlib.Omega.{arith}
 use Rattle.text.specs.Text.{field}
 use Rattle.text.proofs.Writing.{then}
-use borrow.Author.Rules.{rules}
 use Rattle.text.proofs.pieces.write_field.Goals as goal
 
 pub returns : goal.returns

@@ -3,7 +3,6 @@ use mathlib.Core.Path.{◌≡◌}
 use Rattle.text.specs.Text.{named, kind_of}
 use Rattle.text.proofs.Writing.{roomier}
 use Rattle.text.proofs.Words.{named_other}
-use borrow.Author.Rules.{rules}
 use Rattle.text.proofs.pieces.write_name.Goals as goal
 
 pub returns-in-1 : goal.returns-in-1

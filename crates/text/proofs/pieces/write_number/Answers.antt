@@ -1,7 +1,6 @@
 use native.Mathlib.Omega.{arith}
 use Rattle.text.proofs.Writing.{roomier}
 use Rattle.text.proofs.Digits.{decimal_most}
-use borrow.Author.Rules.{rules}
 use Rattle.text.proofs.pieces.write_number.Goals as goal
 
 -- `text::pieces::write_number` meets its contract: a number of 32 bits has at most ten digits. Assumes nothing.

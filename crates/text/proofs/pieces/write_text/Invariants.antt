@@ -1,9 +1,7 @@
-use native.Mathlib.Omega.{arith}
-use Prim.Native.Nat.{ℕ, suc, ◌+◌, ◌-◌, ◌≤◌}
-use mathlib.Core.Path.{◌≡◌, refl, ap, ◌∙◌}
-use lib.ListN.{length, set, get_or, length-set}
-use lib.Seq.{paste, paste-zero, paste-suc}
-use Rattle.text.proofs.Writing.{put_paste}
+use Prim.Native.Nat.{◌-◌, ◌≤◌}
+use mathlib.Core.Path.{◌≡◌}
+use lib.ListN.{length}
+use lib.Seq.{paste}
 use Rattle.text.proofs.pieces.write_text.Given as goal
 
 -- `text::pieces::write_text` meets its contract. The loop's invariant: the first i bytes of `text` stand there. Assumes nothing.
