@@ -1,14 +1,8 @@
 -- A number read digit by digit.
-use Prim.Native.Nat.{ℕ, ◌+◌, ◌≤◌, ◌<◌}
-use mathlib.Core.Path.{◌≡◌, refl, sym, ◌∙◌}
-use mathlib.Core.Bool.{true, false, and-eq-true_iff}
-use mathlib.Core.List.{List, [], ◌∷◌}
-use native.Mathlib.Omega.{arith}
-use native.Mathlib.Numerals.{add-one}
-use borrow.Author.Tests.{leb-true}
-use lib.Dec.{leb}
-use lib.ListN.{length, get_or, drop, drop_of_length-le}
-use lib.Seq.{drop-cons}
+use Rattle.std.specs.Prelude.{ℕ, ◌+◌, ◌≤◌, ◌<◌, ◌≡◌, refl, true, false, List, [], ◌∷◌, length, drop}
+use Rattle.std.proofs.Common.{◌∙◌, arith, add-one, drop-cons, get_or}
+use Rattle.std.proofs.Math.Path.{sym}
+use Rattle.std.proofs.Math.ListN.{drop_of_length-le}
 use Rattle.console.specs.declared.Number.TheVariants.{Is, Not}
 use Rattle.console.specs.Number.{is_digit, and_digit, read_from, number_of}
 
@@ -21,9 +15,6 @@ pub some : (s : List ℕ) → (length s ≡ 0 → ⊥) → read_from 0 s ≡ num
 unfolding number_of
 some [] h = absurd (h refl)
 some (b ∷ bs) h = refl
-
-pub least : (b : ℕ) → is_digit b ≡ true → 48 ≤ b
-least b e = leb-true 48 b ((and-eq-true_iff (leb 48 b) (leb b 57)).0 e).0
 
 module _ (s : List ℕ) (n i : ℕ) where
   front : i < length s → read_from n (drop i s) ≡ read_from n (get_or s i 0 ∷ drop (i + 1) s)

@@ -3,9 +3,13 @@
 
 ghost use Rattle.std.specs.Prelude.{◌≡◌, ◌≤◌, length};
 ghost use Rattle.console.specs.Number.{and_digit, is_digit, number_of};
-ghost use Rattle.console.specs.Input.{Within};
+ghost use Rattle.console.specs.Input.{Gives, Reads, Within};
 
-use libc::{STDERR_FILENO, STDIN_FILENO, STDOUT_FILENO};
+use std::env::FillError;
+use std::fmt::InlineText;
+use std::fs;
+use std::io::{Error, Print, Read};
+use std::rt::{Env, HostRuntime};
 
 // What a text says.
 #[derive(Clone, Copy)]
@@ -33,6 +37,7 @@ fn and_digit(n: u32, b: u8) -> u32
 }
 
 // A number in decimal; one beyond 32 bits is taken for the largest.
+#[tactic(auto, using(crate::proofs::Reading::none, crate::proofs::Reading::some, crate::proofs::Reading::stops, crate::proofs::Reading::goes_on, crate::proofs::Reading::ends))]
 pub fn read_number(s: &[u8]) -> Number
     ensures { result ≡ number_of s.now }
 {
@@ -40,14 +45,11 @@ pub fn read_number(s: &[u8]) -> Number
         return Number::Not;
     }
     let mut n: u32 = 0;
-    let mut i = 0;
-    while i < s.len() {
-        let b = s[i];
-        if !is_digit(b) {
+    for b in s {
+        if !is_digit(*b) {
             return Number::Not;
         }
-        n = and_digit(n, b);
-        i += 1;
+        n = and_digit(n, *b);
     }
     Number::Is(n)
 }
@@ -59,25 +61,51 @@ pub enum Input {
     Failed,
 }
 
-// One read: how many bytes came, 0 at the input's end.
-fn read_part(fd: i32, part: &mut [u8]) -> Input
-    ensures { Within result (length part.new) }
-{
-    let got = libc::read(fd, part);
-    if got < 0 {
-        return Input::Failed;
+// The error of an argument that no path is as long as.
+const NAME_TOO_LONG: i32 = 36;
+
+// The error of a name that is not UTF-8: std opens no such file.
+const NOT_TEXT: i32 = 84;
+
+// The system's reason in an error's text, without the number that std writes behind it.
+fn reason(text: &str) -> &str {
+    match text.split_once(" (os error ") {
+        Some((reason, _number)) => reason,
+        None => text,
     }
-    Input::Bytes(io::count(got, part))
+}
+
+// This failure and the system's reason on standard error.
+fn fail(rt: &HostRuntime, failure: &[u8], error: Error) {
+    let text = InlineText::<256>::of(error);
+    say(rt, failure);
+    say(rt, b": ");
+    say(rt, reason(text.as_str()).as_bytes());
+    say(rt, b"\n");
+}
+
+// One read: how many bytes came, 0 at the input's end.
+fn read_part<R: Read>(rt: &HostRuntime, from: &mut R, part: &mut [u8], failure: &[u8]) -> Input
+    ensures within { Within result (length part.new) }
+    ensures bytes { Gives (R.remaining from.old) (R.remaining from.new) result part.new }
+{
+    match from.read(part) {
+        Ok(got) => Input::Bytes(got),
+        Err(error) => {
+            fail(rt, failure, error);
+            Input::Failed
+        }
+    }
 }
 
 // A file from where it stands to its end, or to the buffer's. A read that fails is no end: it is said on standard error.
-fn read_file(fd: i32, buffer: &mut [u8], failure: &[u8]) -> Input
-    ensures { Within result (length buffer.new) }
+fn read_file<R: Read>(rt: &HostRuntime, from: &mut R, buffer: &mut [u8], failure: &[u8]) -> Input
+    ensures within { Within result (length buffer.new) }
+    ensures bytes { Reads (R.remaining from.old) (R.remaining from.new) result buffer.new }
 {
     let mut n = 0;
     while n < buffer.len() {
-        let Input::Bytes(more) = read_part(fd, &mut buffer[n..]) else {
-            os::fail(failure);
+        let Input::Bytes(more) = read_part(rt, from, &mut buffer[n..], failure) else {
             return Input::Failed;
         };
         if more == 0 {
@@ -88,46 +116,56 @@ fn read_file(fd: i32, buffer: &mut [u8], failure: &[u8]) -> Input
     Input::Bytes(n)
 }
 
-// The file that argument i names.
-fn read_named(i: usize, buffer: &mut [u8], failure: &[u8]) -> Input
+// The file of this name.
+fn read_named(rt: &HostRuntime, name: &[u8], buffer: &mut [u8], failure: &[u8]) -> Input
     ensures { Within result (length buffer.new) }
 {
-    let mut path = io::buffer();
-    let size = os::arg(i, &mut path);
-    if os::errno() != 0 {
-        os::fail(failure);
+    let Ok(path) = str::from_utf8(name) else {
+        fail(rt, failure, Error::from_raw_os_error(NOT_TEXT));
         return Input::Failed;
+    };
+    match fs::open(rt, path) {
+        Ok(mut file) => read_file(rt, &mut file, buffer, failure),
+        Err(error) => {
+            fail(rt, failure, error);
+            Input::Failed
+        }
     }
-    let fd = os::open_read(&path[..size]);
-    if fd < 0 {
-        os::fail(failure);
-        return Input::Failed;
-    }
-    let input = read_file(fd, buffer, failure);
-    libc::close(fd);
-    input
 }
 
 // The file that argument i names, or standard input where there is no such argument. Where it cannot be read,
 // this failure and the system's reason are said on standard error.
-pub fn read_input(i: usize, buffer: &mut [u8], failure: &[u8]) -> Input
+pub fn read_input(rt: &HostRuntime, i: usize, buffer: &mut [u8], failure: &[u8]) -> Input
     ensures { Within result (length buffer.new) }
 {
-    if os::arg_count() <= i {
-        read_file(STDIN_FILENO, buffer, failure)
-    } else {
-        read_named(i, buffer, failure)
+    let mut name = [0u8; 4096];
+    match rt.arg(i, &mut name) {
+        Ok(size) => read_named(rt, &name[..size], buffer, failure),
+        Err(FillError::NotPresent) => read_file(rt, &mut rt.stdin(), buffer, failure),
+        Err(FillError::TooLong) => {
+            fail(rt, failure, Error::from_raw_os_error(NAME_TOO_LONG));
+            Input::Failed
+        }
+    }
+}
+
+// Whether there is an argument i.
+pub fn has_argument(rt: &HostRuntime, i: usize) -> bool {
+    let mut start = [0u8; 1];
+    match rt.arg(i, &mut start) {
+        Ok(_) | Err(FillError::TooLong) => true,
+        Err(FillError::NotPresent) => false,
     }
 }
 
 // A text on standard output. Where it cannot be written whole, this failure and the system's reason are said on standard error.
-pub fn print(text: &[u8], failure: &[u8]) {
-    if !io::write_all(STDOUT_FILENO, text) {
-        os::fail(failure);
+pub fn print(rt: &HostRuntime, text: &[u8], failure: &[u8]) {
+    if let Err(error) = rt.stdout().write_all(text) {
+        fail(rt, failure, error);
     }
 }
 
 // A sentence on standard error.
-pub fn say(sentence: &[u8]) {
-    io::write_all(STDERR_FILENO, sentence);
+pub fn say(rt: &HostRuntime, sentence: &[u8]) {
+    let _ = rt.stderr().write_all(sentence);
 }

@@ -7,10 +7,10 @@ ghost use Rattle.kernel.specs.Ranges.{Ranged, Shallow, InGrid};
 
 use gap::slab::{slab_at, survives_in};
 use gap::{corner, in_face, near, prepare, split};
-use io::{print_decimal, write_all};
 use kernel::Pair;
 use refusals::search_refusal;
 use rules::{Corner, Parameter, Record, Three};
+use std::io;
 
 // The largest coordinate of editions 1 and 2, and of edition 3.
 const L: i32 = 1048576;
@@ -18,9 +18,8 @@ const L: i32 = 1048576;
 const M: i32 = 2097152;
 
 // A number after those before it on the line.
-fn more(n: u64) {
-    write_all(1, b" ");
-    print_decimal(1, n);
+fn more(rt: &impl Print, n: u64) -> io::Result<()> {
+    print!(rt; " {n}")
 }
 
 fn flag(b: bool) -> u64 {
@@ -107,20 +106,29 @@ fn ask(p: Pair, k: Three, i: Three) -> Answers
     }
 }
 
-fn tell(a: Answers) {
-    print_decimal(1, flag(a.survives));
-    more(a.corner.t as u64);
-    more(a.corner.u as u64);
-    more(a.corner.v as u64);
-    more(a.corner.excess as u64);
-    more(flag(a.near));
-    let split = a.split;
-    more(numbered(split));
-    more(flag(a.inside));
+fn tell(rt: &impl Print, a: Answers) -> io::Result<()> {
+    print!(rt; "{}", flag(a.survives))?;
+    more(rt, a.corner.t as u64)?;
+    more(rt, a.corner.u as u64)?;
+    more(rt, a.corner.v as u64)?;
+    more(rt, a.corner.excess as u64)?;
+    more(rt, flag(a.near))?;
+    more(rt, numbered(a.split))?;
+    more(rt, flag(a.inside))
 }
 
 // One line: the box at depths kt, ku, kv and indices t, u, v, where `deepest` is the depth limit of the record's edition.
-fn show(r: Record, deepest: u64, kt: u64, ku: u64, kv: u64, t: u64, u: u64, v: u64)
+fn show(
+    rt: &impl Print,
+    r: Record,
+    deepest: u64,
+    kt: u64,
+    ku: u64,
+    kv: u64,
+    t: u64,
+    u: u64,
+    v: u64,
+) -> io::Result<()>
     requires { Shallow deepest (record { t = kt; u = ku; v = kv }) × InGrid (record { t = kt; u = ku; v = kv }) (record { t = t; u = u; v = v }) }
 {
     let k = Three {
@@ -132,10 +140,10 @@ fn show(r: Record, deepest: u64, kt: u64, ku: u64, kv: u64, t: u64, u: u64, v: u
     if search_refusal(r, 2) == 0 {
         let p = prepare(r, 2);
         if p.deepest == deepest {
-            tell(ask(p, k, i));
+            tell(rt, ask(p, k, i))?;
         }
     }
-    write_all(1, b"\n");
+    println!(rt)
 }
 
 // p = v1 = l and v2 = v3 = m on x and y, exchanged at the end; m is -l: F is 2l(u + v)(1 - 2t), from 4l to -4l at u = v = 1. On z F is
@@ -147,56 +155,57 @@ fn crossing(edition: u8, l: i32, m: i32) -> Record {
 }
 
 // With L the scaled width is 2^63.
-fn wide() {
+fn wide(rt: &impl Print) -> io::Result<()> {
     let r = crossing(1, L, -L);
     // The cube: excess 1 from z, and a width beyond every tolerance.
-    show(r, 20, 0, 0, 0, 0, 0, 0);
+    show(rt, r, 20, 0, 0, 0, 0, 0, 0)?;
     // t to 1/2: z comes down to 0 and touches. From 1/2: F is 0 at the low corner.
-    show(r, 20, 1, 0, 0, 0, 0, 0);
-    show(r, 20, 1, 0, 0, 1, 0, 0);
+    show(rt, r, 20, 1, 0, 0, 0, 0, 0)?;
+    show(rt, r, 20, 1, 0, 0, 1, 0, 0)?;
     // t from 1/4: z is 1/2, rounded up; the width is 2L; 8L/4 ties with 2L, and t wins.
-    show(r, 20, 2, 0, 0, 1, 0, 0);
+    show(rt, r, 20, 2, 0, 0, 1, 0, 0)?;
     // t from 3/8: the width is L, which is the tolerance; 8L/8 loses to 2L, and u wins over v.
-    show(r, 20, 3, 0, 0, 3, 0, 0);
+    show(rt, r, 20, 3, 0, 0, 3, 0, 0)?;
     // The last part of t, at depth 20 everywhere: z is below 0, and its size under 1 is rounded up.
-    show(r, 20, 20, 20, 20, 1048575, 0, 0);
+    show(rt, r, 20, 20, 20, 20, 1048575, 0, 0)?;
     // The last parts of u and v: F is 4L·1048575/1048576, and the box is outside the face.
-    show(r, 20, 0, 20, 20, 0, 1048575, 1048575);
+    show(rt, r, 20, 0, 20, 20, 0, 1048575, 1048575)?;
     // u and v from 1/2: on the face's edge, inside; F is 2L.
-    show(r, 20, 0, 1, 1, 0, 1, 1);
+    show(rt, r, 20, 0, 1, 1, 0, 1, 1)
 }
 
 // The same in edition 3 with M: what is told is twice as many parts at depth 19, and even.
-fn longer() {
+fn longer(rt: &impl Print) -> io::Result<()> {
     let r = crossing(3, M, -M);
-    show(r, 19, 0, 0, 0, 0, 0, 0);
-    show(r, 19, 1, 0, 0, 1, 0, 0);
+    show(rt, r, 19, 0, 0, 0, 0, 0, 0)?;
+    show(rt, r, 19, 1, 0, 0, 1, 0, 0)?;
     // t from 3/8: the width is M, twice the tolerance. From 7/16: it is the tolerance.
-    show(r, 19, 3, 0, 0, 3, 0, 0);
-    show(r, 19, 4, 0, 0, 7, 0, 0);
+    show(rt, r, 19, 3, 0, 0, 3, 0, 0)?;
+    show(rt, r, 19, 4, 0, 0, 7, 0, 0)?;
     // The last part of t, at depth 19 everywhere: no split is left, and t wins the tie.
-    show(r, 19, 19, 19, 19, 524287, 0, 0);
+    show(rt, r, 19, 19, 19, 19, 524287, 0, 0)?;
     // t at depth 19 takes no part in the split, and u wins.
-    show(r, 19, 19, 18, 18, 524287, 0, 0);
+    show(rt, r, 19, 19, 18, 18, 524287, 0, 0)?;
     // The last parts of u and v: F is 4M·524287/524288.
-    show(r, 19, 0, 19, 19, 0, 524287, 524287);
-    show(r, 19, 0, 1, 1, 0, 1, 1);
+    show(rt, r, 19, 0, 19, 19, 0, 524287, 524287)?;
+    show(rt, r, 19, 0, 1, 1, 0, 1, 1)
 }
 
 // Two edges, y at l and at -l, still: F is 2l, beyond the largest separation by 65,536 less; turned by the flag it is 0.
-fn turned() {
+fn turned(rt: &impl Print) -> io::Result<()> {
     let y = column([0; 24], 1, L, -L, L, -L);
-    show(query(1, 2, 0, 65536, 16, y), 20, 0, 0, 0, 0, 0, 0);
-    show(query(1, 2, 1, 65536, 16, y), 20, 0, 0, 0, 0, 0, 0);
+    show(rt, query(1, 2, 0, 65536, 16, y), 20, 0, 0, 0, 0, 0, 0)?;
+    show(rt, query(1, 2, 1, 65536, 16, y), 20, 0, 0, 0, 0, 0, 0)?;
     let far = column([0; 24], 1, M, -M, M, -M);
-    show(query(3, 2, 0, 65536, 64, far), 19, 0, 0, 0, 0, 0, 0);
-    show(query(3, 2, 1, 65536, 64, far), 19, 0, 0, 0, 0, 0, 0);
+    show(rt, query(3, 2, 0, 65536, 64, far), 19, 0, 0, 0, 0, 0, 0)?;
+    show(rt, query(3, 2, 1, 65536, 64, far), 19, 0, 0, 0, 0, 0, 0)
 }
 
 // A vertex from z 1 down over a face at 0: the width is the least tolerance, and 1 more.
-fn narrow() {
+fn narrow(rt: &impl Print) -> io::Result<()> {
     let z = [0; 24];
     show(
+        rt,
         query(1, 1, 0, 0, 16, falling(z, 1, -15)),
         20,
         0,
@@ -205,8 +214,9 @@ fn narrow() {
         0,
         0,
         0,
-    );
+    )?;
     show(
+        rt,
         query(1, 1, 0, 0, 16, falling(z, 1, -16)),
         20,
         0,
@@ -215,8 +225,9 @@ fn narrow() {
         0,
         0,
         0,
-    );
+    )?;
     show(
+        rt,
         query(3, 1, 0, 0, 64, falling(z, 1, -63)),
         19,
         0,
@@ -225,8 +236,9 @@ fn narrow() {
         0,
         0,
         0,
-    );
+    )?;
     show(
+        rt,
         query(3, 1, 0, 0, 64, falling(z, 1, -64)),
         19,
         0,
@@ -235,12 +247,12 @@ fn narrow() {
         0,
         0,
         0,
-    );
+    )
 }
 
-fn main() {
-    wide();
-    longer();
-    turned();
-    narrow();
+fn main(rt: HostRuntime) -> io::Result<()> {
+    wide(&rt)?;
+    longer(&rt)?;
+    turned(&rt)?;
+    narrow(&rt)
 }

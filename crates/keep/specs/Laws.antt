@@ -1,13 +1,11 @@
 -- What the definitions of `keep` promise.
 --     refuses, keeps    what a refused input does, and one that is answered, by what the log's writer says
---     kept-fits         what is written lies in the buffer
---     keeps-once        no second answer and no second buffer fits
+--     refuses_long      so an input over 65,536 bytes is refused with 15
+--     kept_fits         what is written lies in the buffer
+--     keeps_once        no second answer and no second buffer fits
 -- Assumes nothing.
-use Prim.Native.Nat.{ℕ, zero, suc, ◌+◌, ◌*◌, ◌≤◌}
-use Rattle.std.specs.Prelude.{◌≡◌, refl, List}
-use Rattle.std.proofs.Math.Path.{sym}
-use Rattle.std.proofs.Common.{ap, ◌∙◌, arith, length-append}
-use Rattle.std.proofs.Math.ListN.{length}
+use Rattle.std.specs.Prelude.{ℕ, zero, suc, ◌+◌, ◌*◌, ◌<◌, ◌≤◌, ◌≡◌, refl, List, length}
+use Rattle.std.proofs.Common.{sym, ap, ◌∙◌, arith, length-append}
 use Rattle.rules.specs.QueryFile.{is_wide, edition_of, file_form, record_count, place_of, open_refusal, trailer_bytes, put, put_unless}
 use Rattle.rules.specs.AnswerFile.{answer_form}
 use Rattle.queries.specs.Sizes.{short_size}
@@ -18,7 +16,7 @@ use Rattle.answers.specs.Walking.{length_told}
 use Rattle.shift_log.specs.Calls.{bytes_of, log_refusal, log_bytes, size_unless, log_size, Logs}
 use Rattle.shift_log.proofs.Logging.{long, log_refused, log_good}
 use Rattle.page.specs.Page.{sweep_refusal}
-use Rattle.page.specs.Laws.{short}
+use Rattle.page.specs.Laws.{long as too_long, short}
 use Rattle.keep.specs.declared.Logged.{Logged}
 use Rattle.keep.specs.declared.Logged.TheVariants.{Bytes, Refused}
 use Rattle.keep.specs.Keeping.{logged_as, Keeps}
@@ -27,6 +25,9 @@ pub refuses : (s out : List ℕ) (k : ℕ) → sweep_refusal s ≡ k → (k ≡ 
 unfolding logged_as put_unless
 refuses s out zero e h = absurd (h refl)
 refuses s out (suc k) e h = record { says = rw e; leaves = rw e }
+
+pub refuses_long : (s out : List ℕ) → 65536 < length s → Keeps s out out (Refused 15)
+refuses_long s out h = refuses s out 15 (too_long s h) (λ z. omega arith)
 
 module _ (s : List ℕ) (most : length s ≤ 65536) where
   -- 65,536 bytes hold at most 564 records, and 18,064 bytes their answers

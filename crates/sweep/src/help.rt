@@ -1,8 +1,10 @@
 // What --help prints: one text, so that it is written whole or the failure is said once.
 use console::print;
+use std::rt::HostRuntime;
 
-pub fn help() {
+pub fn help(rt: &HostRuntime) {
     print(
+        rt,
         b"Usage: sweep [FILE]
        sweep --help
        sweep --version

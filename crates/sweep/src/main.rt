@@ -1,38 +1,41 @@
 // sweep [FILE]: a query file, or standard input, and its answers as lines on standard output.
 #![tactic(auto)]
 
-use check::same;
-use console::{Input, print, read_input, say};
+use console::{Input, has_argument, print, read_input, say};
 use help::help;
+use std::rt::{Env, HostRuntime};
 use text::Written;
 
 mod help; // help.rt: what --help prints
 
-fn usage() {
+fn usage(rt: &HostRuntime) {
     say(
+        rt,
         b"sweep: write sweep [FILE], sweep --help or sweep --version. Without FILE the query file is read from standard input.\n",
     );
 }
 
-fn version() {
+fn version(rt: &HostRuntime) {
     print(
+        rt,
         b"sweep 0.3.0\n",
         b"sweep: the version cannot be written to standard output",
     );
 }
 
 // The answers of the query file.
-fn answer() {
+fn answer(rt: &HostRuntime) {
     let mut file = [0u8; 65537];
     let mut out = [0u8; 45280];
-    let Input::Bytes(size) = read_input(1, &mut file, b"sweep: the query file cannot be read")
+    let Input::Bytes(size) = read_input(rt, 1, &mut file, b"sweep: the query file cannot be read")
     else {
         return;
     };
     let Written::Text(printed) = page::write_page(&file[..size], &mut out) else {
-        return say(b"sweep: no room for the answers\n"); // never: 45,280 bytes hold them
+        return say(rt, b"sweep: no room for the answers\n"); // never: 45,280 bytes hold them
     };
     print(
+        rt,
         &out[..printed],
         b"sweep: the answers cannot be written to standard output",
     );
@@ -40,29 +43,24 @@ fn answer() {
 
 // Whether an argument begins as an option does.
 fn is_option(argument: &[u8]) -> bool {
-    if argument.len() == 0 {
-        return false;
-    }
-    argument[0] == b'-'
+    argument.first() == Some(&b'-')
 }
 
-fn main() {
-    let count = os::arg_count();
-    if count < 2 {
-        return answer();
+// What the one argument asks for; none, and one too long for a path, read as an empty text.
+fn serve(rt: &HostRuntime, argument: &[u8]) {
+    match argument {
+        b"--help" => help(rt),
+        b"--version" => version(rt),
+        _ if is_option(argument) => usage(rt),
+        _ => answer(rt),
     }
-    if 2 < count {
-        return usage();
+}
+
+fn main(rt: HostRuntime) {
+    if has_argument(&rt, 2) {
+        return usage(&rt);
     }
-    let mut text = io::buffer();
-    let n = os::arg(1, &mut text);
-    if same(&text[..n], b"--help") {
-        help();
-    } else if same(&text[..n], b"--version") {
-        version();
-    } else if is_option(&text[..n]) {
-        usage();
-    } else {
-        answer();
-    }
+    let mut text = [0u8; 4096];
+    let size = rt.arg(1, &mut text).unwrap_or(0);
+    serve(&rt, &text[..size]);
 }
