@@ -2,7 +2,8 @@
 -- A triangle reaches over its parallelogram, the fourth corner too, since the level 0 box of a face reaches it (document 02, R-9).
 use Rattle.std.specs.Prelude.{◌≡◌, refl, false, cond, List, [], ◌∷◌, ℕ, zero, suc, ◌+◌, ◌*◌, ◌<◌, ℤ, pos, ◌-ℤ◌, get_or, ltb}
 use Rattle.std.proofs.Common.{sym, ap, ◌∙◌, subst, arith}
-use Rattle.whole.specs.Ring.{var, num, ◌:-◌, ring}
+use Rattle.whole.specs.Ring.{var, num, ◌:-◌}
+use Rattle.whole.proofs.Ring.{ring}
 use Rattle.rules.specs.declared.Record.{Record}
 use Rattle.rules.specs.declared.Terms.{Terms}
 use Rattle.rules.specs.declared.Ask.{Ask}

@@ -5,7 +5,8 @@ use Rattle.std.specs.Int.Signed.{le_z, ≤ℤ_refl}
 use Rattle.whole.specs.Defs.{min_z, max_z}
 use Rattle.whole.specs.View.{minus_view, neg_up, neg_dn, zed}
 use Rattle.whole.specs.Order.{≤ℤ_trans, +ℤ_mono, min_le, le_max, min_pick, max_pick, lt_le_z}
-use Rattle.whole.specs.Ring.{var, num, ◌:+◌, ◌:-◌, ring}
+use Rattle.whole.specs.Ring.{var, num, ◌:+◌, ◌:-◌}
+use Rattle.whole.proofs.Ring.{ring}
 use Rattle.kernel.specs.declared.Kernel.{Kernel}
 use Rattle.gap.specs.declared.span.Span.{Span}
 use Rattle.gap.specs.Corners.{meets, joined}

@@ -5,7 +5,8 @@ use Rattle.std.specs.Prelude.{◌≡◌, List, [], ◌∷◌, ℕ, ◌+◌, ◌*
 use Rattle.std.proofs.Common.{sym, ap, ap₂, ◌∙◌}
 use Rattle.whole.specs.Defs.{min_z, max_z}
 use Rattle.whole.specs.Order.{min_add, max_add}
-use Rattle.whole.specs.Ring.{var, num, ◌:+◌, ◌:-◌, ring}
+use Rattle.whole.specs.Ring.{var, num, ◌:+◌, ◌:-◌}
+use Rattle.whole.proofs.Ring.{ring}
 use Rattle.rules.specs.declared.Axis.{Axis}
 use Rattle.rules.specs.declared.Axis.TheVariants.{X, Y, Z}
 use Rattle.rules.specs.Gap.{place}

@@ -5,7 +5,8 @@ use Rattle.std.proofs.Math.Path.{ap₂}
 use Rattle.std.proofs.Math.IntN.{+ℤ_comm}
 use Rattle.whole.specs.Defs.{min_z, max_z}
 use Rattle.whole.specs.Order.{min_add, max_add}
-use Rattle.whole.specs.Ring.{Ex, var, ◌:+◌, ◌:*◌, ◌:-◌, ring}
+use Rattle.whole.specs.Ring.{Ex, var, ◌:+◌, ◌:*◌, ◌:-◌}
+use Rattle.whole.proofs.Ring.{ring}
 use Rattle.kernel.specs.declared.Kernel.{Kernel}
 use Rattle.kernel.specs.Kernel.{kern}
 use Rattle.gap.specs.declared.cell.Cell.{Cell}

@@ -5,7 +5,8 @@ use Rattle.std.proofs.Math.IntN.{zero-*ℤ}
 use Rattle.std.specs.Int.Signed.{le_z}
 use Rattle.whole.specs.Defs.{min_z, max_z}
 use Rattle.whole.specs.Order.{min_add, max_add, min_pick, max_pick}
-use Rattle.whole.specs.Ring.{var, num, ◌:+◌, ◌:*◌, ◌:-◌, ring}
+use Rattle.whole.specs.Ring.{var, num, ◌:+◌, ◌:*◌, ◌:-◌}
+use Rattle.whole.proofs.Ring.{ring}
 use Rattle.whole.specs.Within.{Within, within_add, within_more, within_pos}
 use Rattle.rules.specs.Search.{origin}
 use Rattle.kernel.specs.declared.Kernel.{Kernel}

@@ -8,7 +8,8 @@ use Rattle.std.proofs.Math.IntN.{pos}
 use Rattle.std.specs.Int.Signed.{le_z}
 use Rattle.whole.specs.Defs.{min_z, max_z}
 use Rattle.whole.specs.Order.{min_add, max_add, min_test, max_test, sum_below, sum_above}
-use Rattle.whole.specs.Ring.{var, num, ◌:+◌, ◌:*◌, ring}
+use Rattle.whole.specs.Ring.{var, num, ◌:+◌, ◌:*◌}
+use Rattle.whole.proofs.Ring.{ring}
 use Rattle.whole.specs.Within.{Within, within_sub, within_neg, within_pos, within_more}
 use Rattle.rules.specs.declared.Three.{Three}
 use Rattle.rules.specs.Search.{survives}

@@ -5,7 +5,8 @@ use Rattle.std.proofs.Common.{ap, ap₂, ◌∙◌, subst, arith, mul-le-mul, li
 use Prim.Native.Nat.{ℕ, max, ◌-◌, ◌*◌, ◌≤◌}
 use Rattle.std.proofs.Math.IntN.{nat_abs}
 use Rattle.std.specs.Int.{w64}
-use Rattle.whole.specs.Ring.{Ex, var, num, ◌:+◌, ◌:*◌, ◌:-◌, ring}
+use Rattle.whole.specs.Ring.{Ex, var, num, ◌:+◌, ◌:*◌, ◌:-◌}
+use Rattle.whole.proofs.Ring.{ring}
 use Rattle.whole.specs.Within.{Within, within_add, within_sub, within_mul, within_pos, within_more, fits}
 use Rattle.rules.specs.declared.Parameter.{Parameter}
 use Rattle.rules.specs.declared.Parameter.TheVariants.{InT, InU, InV}

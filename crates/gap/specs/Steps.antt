@@ -6,7 +6,8 @@ use Rattle.std.specs.Int.{w64}
 use Rattle.whole.specs.Read.{cast_back}
 use Rattle.whole.specs.View.{up, dn, minus_view}
 use Rattle.whole.specs.Order.{min_pick, max_pick}
-use Rattle.whole.specs.Ring.{var, ◌:+◌, ◌:*◌, ◌:-◌, ring}
+use Rattle.whole.specs.Ring.{var, ◌:+◌, ◌:*◌, ◌:-◌}
+use Rattle.whole.proofs.Ring.{ring}
 use Rattle.whole.specs.Within.{Within, abs_mul, within_add, within_sub, within_mul, within_pos, within_more, fits}
 use Rattle.rules.specs.declared.Three.{Three}
 use Rattle.kernel.specs.declared.Kernel.{Kernel}

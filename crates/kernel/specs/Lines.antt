@@ -1,6 +1,7 @@
 -- Over another denominator a kernel scales; along each parameter it is a straight line.
 use Rattle.std.specs.Prelude.{◌≡◌, List, [], ◌∷◌, ℕ, ◌+◌, ℤ, pos, ◌+ℤ◌, ◌*ℤ◌}
-use Rattle.whole.specs.Ring.{Ex, var, ◌:+◌, ◌:*◌, ◌:-◌, ring}
+use Rattle.whole.specs.Ring.{Ex, var, ◌:+◌, ◌:*◌, ◌:-◌}
+use Rattle.whole.proofs.Ring.{ring}
 use Rattle.kernel.specs.declared.Kernel.{Kernel}
 use Rattle.kernel.specs.Kernel.{kern}
 

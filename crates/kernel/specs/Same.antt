@@ -1,7 +1,8 @@
 -- The kernel form is that of equations (1) and (2), and a pair made of a record's kernels asks what the record asks.
 use Rattle.std.specs.Prelude.{◌≡◌, Bool, List, [], ◌∷◌, ℕ, ◌+◌, ℤ, pos}
 use Rattle.std.proofs.Math.Bool.{true, false}
-use Rattle.whole.specs.Ring.{Ex, var, ◌:+◌, ◌:*◌, ◌:-◌, ring}
+use Rattle.whole.specs.Ring.{Ex, var, ◌:+◌, ◌:*◌, ◌:-◌}
+use Rattle.whole.proofs.Ring.{ring}
 use Rattle.rules.specs.declared.Axis.{Axis}
 use Rattle.rules.specs.Gap.{moving, vertex_face, edge_edge, gap_on}
 use Rattle.kernel.specs.Kernel.{kern, coordinate, kernel_of}

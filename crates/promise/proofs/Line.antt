@@ -6,7 +6,8 @@ use Prim.Native.Nat.{ℕ, ◌+◌, ◌-◌, ◌≤◌, ◌<◌}
 use native.Mathlib.Omega.{arith}
 use lib.IntN.{ℤ, pos, ◌+ℤ◌, ◌*ℤ◌, *ℤ_comm}
 use lib.Signed.{◌≤ℤ◌, <ℤ_irrefl}
-use Rattle.whole.specs.Ring.{var, ◌:+◌, ◌:*◌, ring}
+use Rattle.whole.specs.Ring.{var, ◌:+◌, ◌:*◌}
+use Rattle.whole.proofs.Ring.{ring}
 use Rattle.whole.specs.View.{zed}
 use Rattle.whole.specs.Order.{≤ℤ_or-<, ≤ℤ-<ℤ_trans, +ℤ_mono, *ℤ_mono, *ℤ_strict}
 

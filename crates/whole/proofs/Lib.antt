@@ -1,0 +1,2 @@
+-- That the ring normaliser keeps the value.
+pub mod Ring
