@@ -14,9 +14,8 @@
  *   A buffer that a call may write must overlap no other of that call: the proofs assume it. Lists
  *   that are only read may be one and the same, as the two of a body that stands still.
  *   No function allocates, opens a file or keeps anything between calls.
- *   Stack: taperhive_why takes up to 46,000 bytes on x86-64 and 33,000 on Arm, the others 3,000 at
- *   most. (The compiler's frames by -fstack-usage, taperhive_why's times its 61 levels. On Arm a
- *   painted stack showed 30,800 bytes at level 56, and of the others 2,152 for taperhive_walk.)
+ *   Stack: taperhive_why takes up to 46,000 bytes on x86-64 and 40,000 on Arm, the others 3,000 at
+ *   most. (The frames that the library's code makes room for, taperhive_why's times its 61 levels.)
  *
  * THREADS
  *   Functions are reentrant: threads may call them at the same time, each with buffers of its own that
@@ -24,7 +23,8 @@
  *
  * BYTE ORDER
  *   Files are little-endian on every machine. Numbers handed over are the machine's own. The library
- *   is for x86-64 and 64-bit Arm Linux, both little-endian.
+ *   is for x86-64 and 64-bit Arm Linux, both little-endian. On x86-64 it needs a processor of level
+ *   x86-64-v2 (SSE4.2, POPCNT), and does not look whether it has one.
  *
  * TIME
  *   A query checks at most `budget` boxes, so a call at most that times its queries (the records of a

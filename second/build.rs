@@ -1,13 +1,13 @@
-//! With the feature `beside`: links the proved library's object, named by TAPERHIVE_OBJECT, into compare and bench.
+//! With the feature `beside`: links the proved library, an archive named by TAPERHIVE_LIBRARY, into compare and bench.
 
 fn main() {
-    println!("cargo::rerun-if-env-changed=TAPERHIVE_OBJECT");
+    println!("cargo::rerun-if-env-changed=TAPERHIVE_LIBRARY");
     if std::env::var_os("CARGO_FEATURE_BESIDE").is_none() {
         return;
     }
-    let object = std::env::var("TAPERHIVE_OBJECT").expect("TAPERHIVE_OBJECT names the object");
-    println!("cargo::rerun-if-changed={object}");
+    let library = std::env::var("TAPERHIVE_LIBRARY").expect("TAPERHIVE_LIBRARY names the library");
+    println!("cargo::rerun-if-changed={library}");
     for program in ["compare", "bench"] {
-        println!("cargo::rustc-link-arg-bin={program}={object}");
+        println!("cargo::rustc-link-arg-bin={program}={library}");
     }
 }

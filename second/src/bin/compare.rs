@@ -7,8 +7,8 @@ use std::process::ExitCode;
 use std::time::Duration;
 
 const USAGE: &str = "\
-usage: compare SECONDS SEED RUN FOLDER           from a seed on, for so long
-       compare --only SEED FLAVOUR RUN FOLDER    one file or pair of bodies; RUN runs the programs of the FOLDER";
+usage: compare SECONDS SEED FOLDER           from a seed on, for so long
+       compare --only SEED FLAVOUR FOLDER    one file or pair of bodies; a program is FOLDER/NAME/out/NAME";
 
 fn main() -> ExitCode {
     let arguments: Vec<String> = std::env::args().skip(1).collect();
@@ -26,8 +26,8 @@ fn main() -> ExitCode {
 fn run(arguments: &[String]) -> Option<bool> {
     let only = arguments.first()? == "--only";
     let (numbers, programs) = arguments.split_at_checked(if only { 3 } else { 2 })?;
-    let [run, folder] = programs else { return None };
-    let programs = Programs::by(|name| vec![run.clone(), format!("{folder}/{name}")]);
+    let [folder] = programs else { return None };
+    let programs = Programs::by(|name| vec![format!("{folder}/{name}/out/{name}")]);
     let folder = PathBuf::from("target/differences");
     let walk = Walk { library: linked::library(), programs: &programs, folder };
     if only {
