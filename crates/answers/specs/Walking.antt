@@ -1,10 +1,10 @@
 -- The walk over a file's records, as a loop makes it: one record more at the end of what is told and of what is left. By how an answer is told, so that it serves numbers and bytes.
---     told_more, length-told      what is told of one record more, and how long it is
---     queue-more, clean_after     the queue after one record more; after an answer it is zero
+--     told_more, length_told      what is told of one record more, and how long it is
+--     queue_more, clean_after     the queue after one record more; after an answer it is zero
 --     Walked                      what holds after i records: none of them, one more, all of them
 --     answered                    what one record's search and its telling leave
 --     alone, known, at_place      a walk of one record is that record's, where the record or its place in the file is known
---     told-place, queue-place     the walk over so many records from a place on is that over all of the file's
+--     told_place, queue_place     the walk over so many records from a place on is that over all of the file's
 -- Assumes nothing.
 use Prim.Native.Nat.{ℕ, zero, suc, ◌+◌, ◌-◌, ◌*◌, ◌≤◌, ◌<◌}
 use Rattle.std.proofs.Math.Path.{◌≡◌, sym, ap, subst}

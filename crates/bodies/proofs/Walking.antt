@@ -1,7 +1,7 @@
 -- A list of queries heard part by part: what is left gives the whole list's answer.
 --     Going        the invariant of all three loops
---     going-asks   the next part may be heard, and `going_more` when it was; `going_over` where it ended the walk
---     pair-next, each_next   the next part of a pair's queries, of a row's and of the bodies'
+--     going_asks   the next part may be heard, and `going_more` when it was; `going_over` where it ended the walk
+--     pair_next, each_next   the next part of a pair's queries, of a row's and of the bodies'
 -- Assumes nothing.
 use Prim.Native.Nat.{ℕ, zero, suc, ◌+◌, ◌-◌, ◌≤◌, ◌<◌}
 use mathlib.Core.Path.{◌≡◌, refl, sym, ap, subst, ◌∙◌}

@@ -1,6 +1,6 @@
 -- What is passed over: triangles that are apart, one by one or by the bounds of their blocks.
---     block-distant   by the bound of its block, a triangle of B is apart from a triangle of A
---     rows-distant    by the bounds of their blocks, a triangle of A is apart from each of B
+--     block_distant   by the bound of its block, a triangle of B is apart from a triangle of A
+--     rows_distant    by the bounds of their blocks, a triangle of A is apart from each of B
 -- Assumes nothing.
 use Rattle.std.specs.Prelude.{◌≡◌, refl, Bool, true, false, List, ℕ, ◌+◌, ◌*◌, ◌/◌, ◌≤◌, ◌<◌, ltb, ℤ, length}
 use Rattle.std.proofs.Common.{sym, ap, subst, ◌∙◌, arith, ltb-true, ltb-false}

@@ -1,6 +1,6 @@
 -- What triangles one behind the other reach together, and the bound of a block.
---     reach-first, reach-more   one triangle, and one more
---     inside-block              each of a block's triangles reaches no further than the block's bound
+--     reach_first, reach_more   one triangle, and one more
+--     inside_block              each of a block's triangles reaches no further than the block's bound
 --     picked_more, picked_all   the least and the greatest, triangle after triangle
 -- Assumes nothing.
 use Rattle.std.specs.Prelude.{◌≡◌, refl, List, ◌⊎◌, ℤ, pos, length, get_or, ◌≤ℤ◌}

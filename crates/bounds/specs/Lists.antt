@@ -1,7 +1,7 @@
 -- A list of bounds, six numbers a block.
---     same_refl, same-sound, same-no   `are_same` is equality
---     length-bounds, six-bounds        how long a body's list is, and where a block's bound stands in it
---     take-six                         one block more of a list
+--     same_refl, same_sound, same_no   `are_same` is equality
+--     length_bounds, six_bounds        how long a body's list is, and where a block's bound stands in it
+--     take_six                         one block more of a list
 -- Assumes nothing.
 use Rattle.std.specs.Prelude.{◌≡◌, refl, Bool, true, false, ◌&&◌, ◌⊎◌, ℤ, pos, length, get_or, set, drop}
 use Rattle.std.proofs.Common.{sym, subst, ◌∙◌, inl, inr, eq-or-lt_of_le, length-append, take_all, drop-cons, take-add, get_or-append-add}

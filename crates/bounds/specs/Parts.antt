@@ -1,7 +1,7 @@
 -- Parts of a list in which a run takes the place of some numbers.
---     every-put     a test of a part that holds the run: of what stands before it, of the run, and of what stands behind
---     second-nine   a triangle's coordinates at the end are the second nine of eighteen
---     right-block   whether a block's coordinates are in range once a triangle of it is replaced
+--     every_put     a test of a part that holds the run: of what stands before it, of the run, and of what stands behind
+--     second_nine   a triangle's coordinates at the end are the second nine of eighteen
+--     right_block   whether a block's coordinates are in range once a triangle of it is replaced
 -- Assumes nothing.
 use Rattle.std.specs.Prelude.{◌≡◌, refl, Bool, ◌&&◌, ℕ, ◌+◌, ◌-◌, ◌*◌, ◌/◌, ◌≤◌, ℤ, drop}
 use Rattle.std.proofs.Common.{sym, ap₂, ◌∙◌, arith, drop_at, take_all}

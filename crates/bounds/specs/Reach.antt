@@ -1,5 +1,5 @@
 -- What a triangle reaches over the step on each axis: over its parallelogram, the fourth corner too, since the level 0 box of a face reaches it (document 02, R-9).
---     reach-over   it is what the rules have for the triangle by itself
+--     reach_over   it is what the rules have for the triangle by itself
 -- Assumes nothing.
 use Rattle.std.specs.Prelude.{◌≡◌, List, [], ◌∷◌, ℕ, ◌+◌, ◌*◌, ◌≤◌, ℤ, pos, ◌+ℤ◌, ◌-ℤ◌, length, get_or}
 use Rattle.std.proofs.Common.{sym, ap, ap₂, ◌∙◌}

@@ -1,9 +1,9 @@
 -- "The bounds stay true when one triangle is replaced, and only that block is worked out again." (document 02, R-9)
 --     replaceable      what is known where a replacing is not refused
---     replaced-known   a body stays one
---     stays-exact      bounds that were what the body's triangles give are what they give with the triangle replaced
---     others-stay      no other block's numbers change, whatever they were
---     replace-kept     so it is of what `replace` leaves, by its contract alone
+--     replaced_known   a body stays one
+--     stays_exact      bounds that were what the body's triangles give are what they give with the triangle replaced
+--     others_stay      no other block's numbers change, whatever they were
+--     replace_kept     so it is of what `replace` leaves, by its contract alone
 -- Assumes nothing.
 use Rattle.std.specs.Prelude.{◌≡◌, Bool, true, false, not, cond, ◌&&◌, ◌⊎◌, ℤ, pos, ◌+ℤ◌, ◌-ℤ◌, ltb, eqb, length, get_or, take, drop}
 use Rattle.std.proofs.Math.Path.{refl, ap₂}

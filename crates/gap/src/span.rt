@@ -1,5 +1,5 @@
 // The least and the greatest of F times parts·parts over a cell's corners, on one axis.
-// At a moment F is A + typeof.u.B + typeof.v.C, so that its least over u and v is that of each term by itself.
+// At a moment F is A + u·B + v·C, so that its least over u and v is that of each term by itself.
 ghost use Rattle.std.specs.Prelude.{◌≡◌, ◌≤◌, pos, ◌*ℤ◌};
 ghost use Rattle.kernel.specs.Ranges.{Small};
 ghost use Rattle.whole.specs.Within.{Within};

@@ -1,6 +1,6 @@
 -- Every number that the written search answers has 32 bits, and so can be told, and stand in an answer file.
---     excess-fits    the excess of a box of the search
---     search-held    the id and the answer of a record, as they stand in an answer file
+--     excess_fits    the excess of a box of the search
+--     search_held    the id and the answer of a record, as they stand in an answer file
 -- Assumes nothing.
 use Rattle.std.specs.Prelude.{ℕ, zero, suc, ◌≤◌, ◌<◌, ◌≡◌, refl, Bool, true, false}
 use Rattle.std.proofs.Common.{ap, ◌∙◌, arith}

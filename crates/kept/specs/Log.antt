@@ -1,10 +1,10 @@
 -- `taperhive_log`: the answer file that it writes opens, reads back as what the written search answers, and matches its query file; by the calls' contracts alone.
---     entriesOf       the ids of a query file's records, with what the written search answers
---     own-file        the bytes that are written are the answer file of these
---     own-opens       it opens to exactly so many; `own_reads`: read back they are these
---     own-answer      reading answer k gives the numbers of record k's answer: never 16
---     own-matches     17 is not given
---     log-kept        so of the buffer that `taperhive_log` leaves where it returns 0
+--     entries_of       the ids of a query file's records, with what the written search answers
+--     own_file        the bytes that are written are the answer file of these
+--     own_opens       it opens to exactly so many; `own_reads`: read back they are these
+--     own_answer      reading answer k gives the numbers of record k's answer: never 16
+--     own_matches     17 is not given
+--     log_kept        so of the buffer that `taperhive_log` leaves where it returns 0
 -- Of every query file that opens. Assumes nothing but that a byte is one (`Bytes`).
 use Prim.Native.Nat.{ℕ, zero, suc, ◌+◌, ◌*◌, ◌≤◌, ◌<◌}
 use Rattle.std.specs.Prelude.{◌≡◌, Bool, ◌&&◌, length, take, drop}

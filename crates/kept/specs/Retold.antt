@@ -1,7 +1,7 @@
 -- `keep FILE | tell` prints what `sweep FILE` prints: of every query file that `sweep` does not refuse. (`keep` writes nothing of one that it refuses.)
---     own-taken       reading refuses no answer of our own log
---     own-told        what is told of it are the numbers that `sweep` prints
---     retold-same     so the two texts are the same bytes
+--     own_taken       reading refuses no answer of our own log
+--     own_told        what is told of it are the numbers that `sweep` prints
+--     retold_same     so the two texts are the same bytes
 -- Assumes nothing but that a byte is one (`Bytes`).
 use Rattle.std.specs.Prelude.{ℕ, zero, suc, ◌+◌, ◌*◌, ◌≤◌, ◌≡◌, refl, Bool, true, ◌&&◌, List, ltb, length}
 use Rattle.std.proofs.Math.Path.{sym, ap}

@@ -1,4 +1,4 @@
-// F in one form for both kinds of pair: on each axis A + typeof.u.B + typeof.v.C, where A, B and C each go straight from start to end.
+// F in one form for both kinds of pair: on each axis A + u·B + v·C, where A, B and C each go straight from start to end.
 #![tactic(auto)]
 
 // The six whole numbers of an axis: A, B, C at the start and at the end.

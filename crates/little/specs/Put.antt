@@ -1,11 +1,11 @@
 -- Laws of `put`: a run of bytes written into a list.
 --     put_one, put4          one store, and four in a row, are one run
---     length-put             the length stays
---     put-nil                a run of no bytes changes nothing
---     put-put, one_more      two runs, the second right behind the first, are one
---     drop-put               what stands from the place on afterwards
+--     length_put             the length stays
+--     put_nil                a run of no bytes changes nothing
+--     put_put, one_more      two runs, the second right behind the first, are one
+--     drop_put               what stands from the place on afterwards
 --     put_same               a run written over itself changes nothing
---     put-below, put-above   no other byte changes
+--     put_below, put_above   no other byte changes
 -- Assumes nothing.
 use Rattle.std.specs.Prelude.{ℕ, suc, ◌+◌, ◌-◌, ◌≤◌, ◌<◌, ◌≡◌, set}
 use Rattle.std.proofs.Common.{sym, ◌∙◌, add-zero, length-drop, take-append-drop, drop_at, take-add}

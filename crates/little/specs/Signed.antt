@@ -1,6 +1,6 @@
 -- Two's complement of 32 bits: document 01's reading is the machine's, and what a branch on the sign and the two casts ask of it.
 --     signed_is, bits_is         the machine's `to_z w32`, `of_z w32`
---     signed-bits, bits-signed   the two undo each other
+--     signed_bits, bits_signed   the two undo each other
 --     high, low                  where the test `v < 0` held, the bits of v are in the upper half; where it failed, in the lower
 --     casts, same                bits in the lower half are a number that a cast to u32 takes, and it gives those bits
 -- Assumes nothing.

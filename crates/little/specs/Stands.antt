@@ -1,6 +1,6 @@
 -- Laws of `stands`: bytes compared one by one.
---     four, stands-four           four bytes at once, as the code compares them
---     stands-there, stands-bytes  bytes stand at a place exactly where the list goes on with them
+--     four, stands_four           four bytes at once, as the code compares them
+--     stands_there, stands_bytes  bytes stand at a place exactly where the list goes on with them
 -- Assumes nothing.
 use Rattle.std.specs.Prelude.{ℕ, suc, ◌+◌, ◌≤◌, ◌≡◌, refl, Bool, true, false, ◌&&◌, List, [], ◌∷◌, ◌++◌, eqb, length, get_or, take, drop}
 use Rattle.std.proofs.Common.{sym, ap, ◌∙◌, add-zero, arith, add-one, eq-eqb, eqb-true, get_or-drop, drop-cons, drop-drop}

@@ -1,5 +1,5 @@
 -- Laws of `word` and `word_bytes`: a number of 32 bits read from bytes and written as bytes.
---     word-drop     a word of what stands from a place on
+--     word_drop     a word of what stands from a place on
 --     word_back     of bytes just written: the number
 --     word_at       the same at a place
 --     digits        the bytes of a number given by its four bytes

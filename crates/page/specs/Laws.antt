@@ -1,8 +1,8 @@
 -- What the definitions of the page promise.
 --     long, short           the refusal of an input, by its length
---     fifteen-exactly       15 is given exactly when the input is over 65,536 bytes
---     text-put, text-fits   a text that is printed stands from the first place on, and lies in the buffer
---     paged-once            no second answer and no second buffer fits what the page promises
+--     fifteen_exactly       15 is given exactly when the input is over 65,536 bytes
+--     text_put, text_fits   a text that is printed stands from the first place on, and lies in the buffer
+--     paged_once            no second answer and no second buffer fits what the page promises
 -- Assumes nothing.
 use Rattle.std.specs.Prelude.{ℕ, ◌≤◌, ◌<◌, ◌≡◌, refl, Bool, true, false, cond, List, [], ◌∷◌, ltb, length}
 use Rattle.std.proofs.Common.{sym, ap, ◌∙◌, arith, lt-ltb, le-ltb, ltb-true, ltb-false, length-append}

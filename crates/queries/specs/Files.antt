@@ -1,10 +1,10 @@
 -- Whole files.
---     trailer-opens               bytes with a trailer of a form behind them open by it
---     formed-opens, formed-read   free bytes, a list of records and a trailer of a form open to exactly so many records, from the first on, and they are that list
---     formed-once                 no two lists, and no two runs of free bytes, are the same file
---     written-file                records and a trailer put one behind another are such a file
---     file-opens                  a query file opens to its edition and to its records
---     file-fetch, file-past       record k is the k-th of the list, beside its own refusal; past the last there is none
+--     trailer_opens               bytes with a trailer of a form behind them open by it
+--     formed_opens, formed_read   free bytes, a list of records and a trailer of a form open to exactly so many records, from the first on, and they are that list
+--     formed_once                 no two lists, and no two runs of free bytes, are the same file
+--     written_file                records and a trailer put one behind another are such a file
+--     file_opens                  a query file opens to its edition and to its records
+--     file_fetch, file_past       record k is the k-th of the list, beside its own refusal; past the last there is none
 -- The first five of every form, the others of every edition of the query file. Assumes nothing.
 use Rattle.std.specs.Prelude.{ℕ, ◌+◌, ◌-◌, ◌*◌, ◌≤◌, ◌<◌, ◌≡◌, Bool, true, false, cond, ◌||◌, eqb}
 use Rattle.std.proofs.Math.Path.{refl, sym, ap}

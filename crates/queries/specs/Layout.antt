@@ -1,11 +1,11 @@
 -- How the records of a file stand in bytes, said once for every form: what one record must be, and what follows of each place and of lists.
 --     Layout             how a record is written and read, that each undoes the other, and how long it is
 --     read-back          what was put at a place is read there
---     write-back         to put the record that stands at a place there again changes nothing
---     same-record        no two records have the same bytes
---     joined-more        records one behind another, one more at the end; `length_joined` how long they are; `read_more` the same of records read
---     read-joined        so many read from where they were joined are they
---     joined-read        so many read and joined are the bytes that stood there
+--     write_back         to put the record that stands at a place there again changes nothing
+--     same_record        no two records have the same bytes
+--     joined_more        records one behind another, one more at the end; `length_joined` how long they are; `read_more` the same of records read
+--     read_joined        so many read from where they were joined are they
+--     joined_read        so many read and joined are the bytes that stood there
 -- Assumes nothing.
 use Prim.Native.Nat.{ℕ, zero, suc, ◌+◌, ◌*◌, ◌≤◌, ◌<◌}
 use Rattle.std.specs.Prelude.{◌≡◌, get_or, drop}

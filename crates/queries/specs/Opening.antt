@@ -1,11 +1,11 @@
 -- Laws of opening a file and of reaching a record in it.
---     ten-exactly                       the test of 10 is the one that document 02 words
---     refused-open                      the answer of a refusal
---     opened-refused, opened-records    what an answer says of the file
---     entry-fits                        each record of a form stands before the trailer; `records_end`, `record_fits` by the edition
---     few-records                       how many records a short file has at most
---     refused-first, opens-first        the file's own refusals come before any others
---     reach-refused, -index, -good      the refusal of fetching, by the file's own and the index
+--     ten_exactly                       the test of 10 is the one that document 02 words
+--     refused_open                      the answer of a refusal
+--     opened_refused, opened_records    what an answer says of the file
+--     entry_fits                        each record of a form stands before the trailer; `records_end`, `record_fits` by the edition
+--     few_records                       how many records a short file has at most
+--     refused_first, opens_first        the file's own refusals come before any others
+--     reach_refused, _index, _good      the refusal of fetching, by the file's own and the index
 -- Assumes nothing.
 use Prim.Native.Nat.{ℕ, zero, suc, ◌+◌, ◌-◌, ◌*◌, ◌<◌, ◌≤◌}
 use Rattle.std.specs.Prelude.{◌≡◌, refl, Bool, true, false, not, cond, ◌&&◌, ◌||◌, List, [], ◌∷◌, ◌++◌, ltb, eqb, length, get_or, drop}

@@ -1,7 +1,7 @@
 -- A record written and read back is that record; the bytes of a record read and written back are those bytes.
 --     read-back       what was put is read as the record; `written_back` of a writer's buffer, whatever the record that it did not refuse
---     write-back      to put the record that stands at a place there again changes nothing
---     same-record     no two records have the same bytes
+--     write_back      to put the record that stands at a place there again changes nothing
+--     same_record     no two records have the same bytes
 --     layout          an edition's layout, of which Layout.antt speaks; the files' laws are of it (Files.antt, Same.antt)
 -- All of any edition, by whether its record is wide. What is read is of the edition that it is read by. Assumes nothing.
 use Rattle.std.specs.Prelude.{ℕ, ◌+◌, ◌*◌, ◌≤◌, ◌<◌, ◌≡◌, refl, Bool, true, false, List, [], ◌∷◌, ◌++◌, length, get_or, take, drop}

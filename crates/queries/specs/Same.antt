@@ -1,7 +1,7 @@
 -- A file that opens is one of free bytes, its records and its trailer: read and written back it is the same bytes.
---     trailer-same    the last 16 bytes of a file that opens are the trailer of its count
---     formed-same     the bytes before the first record, the records that stand there and a trailer are the file; `file_same` of a query file
---     same-file       no two lists of records give the same bytes: these say the edition, the records and the free bytes before them
+--     trailer_same    the last 16 bytes of a file that opens are the trailer of its count
+--     formed_same     the bytes before the first record, the records that stand there and a trailer are the file; `file_same` of a query file
+--     same_file       no two lists of records give the same bytes: these say the edition, the records and the free bytes before them
 -- The first two of every form, the others of every edition of the query file. Assumes nothing.
 use Rattle.std.specs.Prelude.{ℕ, ◌+◌, ◌*◌, ◌≤◌, ◌≡◌, true}
 use Rattle.std.proofs.Math.Path.{sym, ap}

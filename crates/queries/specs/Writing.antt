@@ -1,10 +1,10 @@
 -- Laws of the writers.
---     refused-write, done-write    a writer's answer and the bytes after it, by its refusal
+--     refused_write, done_write    a writer's answer and the bytes after it, by its refusal
 --     written_once                 and there is no other
 --     Puts                         the same as a number; `refuses_put`, `does_put`; and `puts_once`
---     write-is, write-room         the refusal of a record, as the code makes it, and what none says
---     trailer-room                 what no refusal of a trailer says
---     trailer-edition              the refusal of a query file's trailer, by its edition
+--     write_is, write_room         the refusal of a record, as the code makes it, and what none says
+--     trailer_room                 what no refusal of a trailer says
+--     trailer_edition              the refusal of a query file's trailer, by its edition
 -- Assumes nothing.
 use Prim.Native.Nat.{ℕ, zero, suc, ◌+◌, ◌-◌, ◌*◌, ◌<◌, ◌≤◌}
 use Rattle.std.specs.Prelude.{◌≡◌, refl, Bool, not, cond, ltb, length}

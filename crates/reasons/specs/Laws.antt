@@ -1,11 +1,11 @@
 -- Laws of what is answered and told of a record of a query file and a point.
---     refused-with    a refusal carries the number that is due
---     named-why       where a box is named nothing is due, and it is the box that the record's own search names
+--     refused_with    a refusal carries the number that is due
+--     named_why       where a box is named nothing is due, and it is the box that the record's own search names
 --     has_room        and there was room to tell it
---     on-grid         a box that is named is one of the grid
---     told-kept       what is told keeps the promises of promise/specs/Why.antt
---     rules-once      no second answer or queue fits what `rule` promises
---     tells-once      no second number, told numbers or queue fit what `tell` promises
+--     on_grid         a box that is named is one of the grid
+--     told_kept       what is told keeps the promises of promise/specs/Why.antt
+--     rules_once      no second answer or queue fits what `rule` promises
+--     tells_once      no second number, told numbers or queue fit what `tell` promises
 -- Assumes nothing.
 use Prim.Native.Nat.{ℕ, zero, suc}
 use Rattle.std.proofs.Math.Path.{◌≡◌, refl, sym}

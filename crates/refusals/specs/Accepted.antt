@@ -1,7 +1,7 @@
 -- What a record that is not refused is known to be.
 --     accepted          of `record_refusal r ≡ 0`, as a writer and `fetch` give it
---     accepted-with     of the rows alone, with others behind them: also that there is room for the separations and for the cap
---     accepted-search   of `search_refusal r words ≡ 0`, as the search gives it
+--     accepted_with     of the rows alone, with others behind them: also that there is room for the separations and for the cap
+--     accepted_search   of `search_refusal r words ≡ 0`, as the search gives it
 -- Assumes nothing.
 use Rattle.std.specs.Prelude.{ℕ, suc, ◌≤◌, ◌≡◌, refl, Bool, true, false, not, ◌&&◌, ◌||◌, List, [], ◌∷◌, ◌++◌, ◌⊎◌, pos, nat_abs, get_or, drop, leb, eqb}
 use Rattle.std.proofs.Math.Bool.{and-eq-true_iff}

@@ -1,7 +1,7 @@
 -- Laws of the order "lowest number first".
 --     first_or        rows with a number behind them: of the first that is due, and `rest` where none is
---     first-append   rows behind rows, and `first_then` by the two numbers
---     not-due        where the number is 0, no row is due
+--     first_append   rows behind rows, and `first_then` by the two numbers
+--     not_due        where the number is 0, no row is due
 -- Assumes nothing.
 use Rattle.std.specs.Prelude.{ℕ, zero, suc, ◌≡◌, refl, Bool, true, false, cond, ◌&&◌, List, [], ◌∷◌, ◌++◌, T}
 use Rattle.std.proofs.Common.{arith}

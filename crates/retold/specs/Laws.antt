@@ -1,7 +1,7 @@
 -- What the definitions of the page promise.
 --     long, opened, refused    the refusal of an input: by its length, by what it opens to, by an answer that reading refuses
 --     told_text                the text of an input that is not refused; `refused_text_lem` of one that is
---     retold-once              no second answer and no second buffer fits what the page promises
+--     retold_once              no second answer and no second buffer fits what the page promises
 -- Assumes nothing.
 use Rattle.std.specs.Prelude.{ℕ, ◌≤◌, ◌<◌, ◌≡◌, Bool, not, List, [], ◌∷◌, length}
 use Rattle.std.proofs.Math.Path.{sym, ap}

@@ -1,6 +1,6 @@
 -- The layout of the answer file.
 --     Held            what every answer of a program is: each number has 32 bits
---     answerLayout    how an answer stands in bytes: so what `queries` says of every layout holds of the answer file
+--     answer_layout    how an answer stands in bytes: so what `queries` says of every layout holds of the answer file
 -- Assumes nothing.
 use Rattle.std.specs.Prelude.{ℕ, ◌+◌, ◌≤◌, ◌<◌, ◌≡◌, refl, List, ◌++◌, length, take, drop}
 use Rattle.std.proofs.Common.{sym, ap, ◌∙◌, add-zero, arith, take-add, drop-drop}

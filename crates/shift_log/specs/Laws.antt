@@ -1,10 +1,10 @@
 -- What holds of the answer file: each law is that of every layout, read off for answers.
---     written_read, read-written   an answer put at a place is read there; one read and put there again changes no byte
---     file-read, file-same         a whole file's answers are read back; a file that opens, read and written back, is the same bytes
---     no-two                       no two lists of (id, answer in numbers) give the same bytes, whatever free bytes stand before them
---     no-two-lists                 no two lists of (id, answer) give the same bytes
---     wrote-read                   what a writer wrote from eight numbers is read there
---     reads-file, reads-past       answer k of a file is the k-th of its list, or refused 16 as writing it would be; past the last there is none
+--     written_read, read_written   an answer put at a place is read there; one read and put there again changes no byte
+--     file_read, file_same         a whole file's answers are read back; a file that opens, read and written back, is the same bytes
+--     no_two                       no two lists of (id, answer in numbers) give the same bytes, whatever free bytes stand before them
+--     no_two_lists                 no two lists of (id, answer) give the same bytes
+--     wrote_read                   what a writer wrote from eight numbers is read there
+--     reads_file, reads_past       answer k of a file is the k-th of its list, or refused 16 as writing it would be; past the last there is none
 -- Assumes nothing.
 use Rattle.std.specs.Prelude.{ℕ, ◌+◌, ◌*◌, ◌≤◌, ◌<◌, ◌≡◌, refl, Bool, true, not, List, [], ◌∷◌, ◌++◌, map, ltb, take}
 use Rattle.std.proofs.Common.{sym, ◌∙◌, arith, lt-ltb, le-ltb}

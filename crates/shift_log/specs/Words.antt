@@ -1,8 +1,8 @@
 -- 16 WORD: numbers that it does not refuse are an answer's, and an answer's numbers say which it is.
 --     answer_of      the answer that numbers tell, by their word; `told_back`: an answer's own numbers tell it
 --     Taken         what numbers that are not refused are known to be; `taken`
---     taken-told    they are the numbers of an answer: no field says more than that answer has
---     told-once     no two answers are told in the same numbers
+--     taken_told    they are the numbers of an answer: no field says more than that answer has
+--     told_once     no two answers are told in the same numbers
 -- Assumes nothing.
 use Rattle.std.specs.Prelude.{ℕ, zero, suc, ◌≤◌, ◌≡◌, refl, Bool, true, false, not, ◌&&◌, ◌||◌, ltb, eqb, drop}
 use Rattle.std.proofs.Common.{sym, ap, ◌∙◌, arith, ltb-false, eqb-true}

@@ -1,6 +1,6 @@
 -- Laws of a number's decimal digits.
---     decimal-short, decimal-long   how they go by the last digit
---     decimal-most                  a number of 32 bits has ten at most
+--     decimal_short, decimal_long   how they go by the last digit
+--     decimal_most                  a number of 32 bits has ten at most
 -- Assumes nothing.
 use Prim.Native.Nat.{ℕ, zero, suc, ◌+◌, ◌*◌, ◌/◌, ◌%◌, ◌≤◌, ◌<◌}
 use mathlib.Core.Bool.{Bool, true, false}

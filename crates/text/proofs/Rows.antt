@@ -1,7 +1,7 @@
 -- Loops over the answers: what is done and what is left make the whole.
 --     rows_more                          the first of what is left, and the others
---     lined-none, lined-more, lined-all  the lines written so far: at the start, one more, all of them
---     counted_none, counted-more, counted-all   the same of a tally
+--     lined_none, lined_more, lined_all  the lines written so far: at the start, one more, all of them
+--     counted_none, counted_more, counted_all   the same of a tally
 -- Assumes nothing.
 use Prim.Native.Nat.{ℕ, zero, suc, ◌+◌, ◌-◌, ◌*◌, ◌≤◌, ◌<◌}
 use mathlib.Core.Bool.{Bool, true, false, cond}

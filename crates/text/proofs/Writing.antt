@@ -1,8 +1,8 @@
 -- Laws of `Wrote` and `Printed`, what a writer promises.
---     put-paste              a text copied byte by byte
+--     put_paste              a text copied byte by byte
 --     then                   a writer, and a second right behind it
 --     roomier                another bound on the place behind
---     printed, printed-not   a whole text, and one that had no room
+--     printed, printed_not   a whole text, and one that had no room
 -- Assumes nothing.
 use Prim.Native.Nat.{ℕ, ◌+◌, ◌≤◌}
 use mathlib.Core.Bool.{Bool, true, false}

@@ -1,7 +1,7 @@
 -- What the definitions of the text promise.
---     tallies-add-up   "the six tallies .. add up to it", the number of records
+--     tallies_add_up   "the six tallies .. add up to it", the number of records
 --     read-back        a number's digits read back give the number, so no two numbers print alike
---     printed-once     no second answer and no second buffer fits what a writer promises
+--     printed_once     no second answer and no second buffer fits what a writer promises
 -- Assumes nothing.
 use Rattle.std.specs.Prelude.{ℕ, zero, suc, ◌+◌, ◌-◌, ◌*◌, ◌/◌, ◌%◌, ◌≤◌, ◌<◌, Bool, true, false, cond, ◌≡◌, refl, List, [], ◌∷◌, ◌++◌, ltb, leb, eqb, length}
 use Rattle.std.proofs.Common.{sym, ◌∙◌, arith, ltb-false, leb-true}

@@ -1,7 +1,7 @@
 -- Queries in order: what the check says of each, and the answers of one list after another.
---     none-refused     none refused: not one of them is
---     capped-none      nor is one with a cap of the step (document 02, R-7)
---     hearAll-append   two lists heard one after the other
+--     none_refused     none refused: not one of them is
+--     capped_none      nor is one with a cap of the step (document 02, R-7)
+--     hear_all_append   two lists heard one after the other
 --     accepted         two bodies that are not refused
 -- Assumes nothing.
 use Rattle.std.specs.Prelude.{ℕ, zero, suc, ◌≤◌, ◌≡◌, refl, Bool, true, false, not, cond, ◌&&◌, ◌||◌, List, [], ◌∷◌, ◌++◌, eqb}
