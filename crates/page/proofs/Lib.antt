@@ -1,2 +1,3 @@
 -- What the proofs of `page` cite.
 pub mod Paging
+pub mod Exactly

@@ -1,11 +1,11 @@
 -- What the definitions of the page promise.
 --     long, short           the refusal of an input, by its length
---     fifteen_exactly       15 is given exactly when the input is over 65,536 bytes
+--     open_most             opening's own numbers end with 12, so 15 is given exactly when the input is over 65,536 bytes (`fifteen_exactly`, proofs/Exactly.antt)
 --     text_put, text_fits   a text that is printed stands from the first place on, and lies in the buffer
 --     paged_once            no second answer and no second buffer fits what the page promises
 -- Assumes nothing.
-use Rattle.std.specs.Prelude.{ℕ, ◌≤◌, ◌<◌, ◌≡◌, refl, Bool, true, false, cond, List, [], ◌∷◌, ltb, length}
-use Rattle.std.proofs.Common.{sym, ap, ◌∙◌, arith, lt-ltb, le-ltb, ltb-true, ltb-false, length-append}
+use Rattle.std.specs.Prelude.{ℕ, ◌≤◌, ◌<◌, ◌≡◌, Bool, true, false, cond, List, [], ◌∷◌, length}
+use Rattle.std.proofs.Common.{sym, ap, ◌∙◌, arith, lt-ltb, le-ltb, length-append}
 use Rattle.rules.specs.Refusals.{Case, first}
 use Rattle.rules.specs.QueryFile.{file_form, open_cases, open_refusal, put}
 use Rattle.text.specs.declared.Written.{Written}
@@ -38,16 +38,9 @@ first_most most (c ∷ cs) h = by_case c.due (first cs) (first_most most cs h.1)
     by_case false rest k = k
 
 -- opening's own numbers end with 12
-open_most : (s : List ℕ) → open_refusal (file_form s) s ≤ 12
+pub open_most : (s : List ℕ) → open_refusal (file_form s) s ≤ 12
 unfolding open_refusal
 open_most s = first_most 12 (open_cases (file_form s) s) (omega arith, (omega arith, (omega arith, (omega arith, (omega arith, tt)))))
-
-over : (s : List ℕ) (b : Bool) → ltb 65536 (length s) ≡ b → sweep_refusal s ≡ 15 → 65536 < length s
-over s true e h = ltb-true 65536 (length s) e
-over s false e h = absurd (omega (arith, sym h ∙ short s (ltb-false 65536 (length s) e), open_most s))
-
-pub fifteen_exactly : (s : List ℕ) → (65536 < length s → sweep_refusal s ≡ 15) × (sweep_refusal s ≡ 15 → 65536 < length s)
-fifteen_exactly s = (long s, over s (ltb 65536 (length s)) refl)
 
 -- ---- what is printed
 text_if : (room : Bool) (text out out' : List ℕ) {n : ℕ} → Text n ≡ written_if room text → out' ≡ buffer_if room text out → (out' ≡ put out 0 text) × (n ≡ length text)
