@@ -3,6 +3,7 @@
 
 ghost use Rattle.std.specs.Prelude.{◌≡◌, true, ◌∷◌, [], ◌+◌, ◌*◌, ◌≤◌, length};
 ghost use Rattle.rules.specs.Answers.{told, queue_after};
+ghost use Rattle.rules.specs.Refusals.{refusal_in};
 ghost use Rattle.rules.specs.QueryFile.{file_form, is_wide, record_size, put};
 ghost use Rattle.rules.specs.Search.{search};
 ghost use Rattle.queries.specs.Held.{Held};
@@ -13,7 +14,7 @@ ghost use Rattle.answers.specs.Walk.{tells, tells_from, queue_from, One, Every, 
 use asking::{id_at, search_at};
 use queries::record::{encode, place_of};
 use queries::{file_form, open_file, open_form};
-use rules::{Answer, Form, Opened, Record, Told};
+use rules::{Answer, Form, Record, Records, Refusal, Told};
 
 pub mod asking; // asking.rt: a record asked where it stands in a file
 
@@ -30,20 +31,6 @@ fn moment(word: u32, t: u32, u: u32, v: u32, excess: u32, count: u32) -> Told
         excess,
         count,
         number: 0,
-    }
-}
-
-fn refused(number: u32) -> Told
-    ensures { result ≡ record { word = 0; t = 0; u = 0; v = 0; excess = 0; count = 0; number = number } }
-{
-    Told {
-        word: 0,
-        t: 0,
-        u: 0,
-        v: 0,
-        excess: 0,
-        count: 0,
-        number,
     }
 }
 
@@ -80,7 +67,10 @@ pub fn numbers(answer: Answer) -> Told
             excess,
             count,
         } => moment(5, t, u, v, excess, count),
-        Answer::Refused(number) => refused(number),
+        Answer::Refused(number) => Told {
+            number,
+            ..moment(0, 0, 0, 0, 0, 0)
+        },
     }
 }
 
@@ -108,38 +98,7 @@ pub fn write_eight(out: &mut [u32], at: usize, id: u32, n: Told)
 pub fn is_answered(answer: Answer) -> bool
     ensures { result ≡ is_answered answer }
 {
-    match answer {
-        Answer::Refused(number) => false,
-        Answer::Met {
-            t,
-            u,
-            v,
-            excess,
-            count,
-        } => true,
-        Answer::Clear(count) => true,
-        Answer::Spent {
-            t,
-            u,
-            v,
-            excess,
-            count,
-        } => true,
-        Answer::Room {
-            t,
-            u,
-            v,
-            excess,
-            count,
-        } => true,
-        Answer::Floor {
-            t,
-            u,
-            v,
-            excess,
-            count,
-        } => true,
-    }
+    !matches!(answer, Answer::Refused(_))
 }
 
 // One record, with a queue that is zero where it is `clean`; whether the queue is clean afterwards.
@@ -162,24 +121,15 @@ fn answer_at(
 }
 
 // Record after record, the queue cleared at the first that is answered.
-pub fn answer_records(
-    file: &[u8],
-    edition: u8,
-    first: usize,
-    count: usize,
-    queue: &mut [u64],
-    out: &mut [u32],
-)
-    requires { (first + record_size edition * count ≤ length file.now) × (8 * count ≤ length out.old) }
-    ensures out_after { out.new ≡ put out.old 0 (tells_from edition file.now (length queue.old) count first) }
-    ensures queue_after { queue.new ≡ queue_from edition file.now count first queue.old }
+pub fn answer_records(file: &[u8], records: Records, queue: &mut [u64], out: &mut [u32])
+    requires { (records.first + record_size records.edition * records.count ≤ length file.now) × (8 * records.count ≤ length out.old) }
+    ensures out_after { out.new ≡ put out.old 0 (tells_from records.edition file.now (length queue.old) records.count records.first) }
+    ensures queue_after { queue.new ≡ queue_from records.edition file.now records.count records.first queue.old }
 {
     let mut clean = false;
-    let mut i = 0;
-    while i < count {
-        let at = place_of(edition, first, i);
-        clean = answer_at(file, edition, at, queue, clean, out, 8 * i);
-        i += 1;
+    for i in 0..records.count {
+        let at = place_of(records.edition, records.first, i);
+        clean = answer_at(file, records.edition, at, queue, clean, out, 8 * i);
     }
 }
 
@@ -191,80 +141,61 @@ pub fn answer_record(r: Record, queue: &mut [u64], out: &mut [u32])
 {
     let mut bytes = [0u8; 128];
     encode(&mut bytes, 0, r.edition, r);
-    answer_records(&bytes, r.edition, 0, 1, queue, out);
+    let records = Records {
+        edition: r.edition,
+        first: 0,
+        count: 1,
+    };
+    answer_records(&bytes, records, queue, out);
 }
 
 // Record n of a file.
-pub fn answer_one(file: &[u8], n: usize, queue: &mut [u64], out: &mut [u32]) -> u32
-    ensures { One file.now n queue.old queue.new out.old out.new result }
+pub fn answer_one(file: &[u8], n: usize, queue: &mut [u64], out: &mut [u32]) -> Result<(), Refusal>
+    ensures { One file.now n queue.old queue.new out.old out.new (refusal_in result) }
 {
-    let o = open_file(file);
-    match o {
-        Opened::Refused(number) => number,
-        Opened::Records {
-            edition,
-            first,
-            count,
-        } => {
-            if count <= n {
-                return 13;
-            }
-            if out.len() < 8 {
-                return 14;
-            }
-            let at = place_of(edition, first, n);
-            answer_records(file, edition, at, 1, queue, out);
-            0
-        }
+    let records = open_file(file)?;
+    if records.count <= n {
+        return Err(Refusal::Index);
     }
+    if out.len() < 8 {
+        return Err(Refusal::Space);
+    }
+    let one = Records {
+        first: place_of(records.edition, records.first, n),
+        count: 1,
+        ..records
+    };
+    answer_records(file, one, queue, out);
+    Ok(())
 }
 
 // Every record of a file.
-pub fn answer_all(file: &[u8], queue: &mut [u64], out: &mut [u32]) -> u32
-    ensures { Every file.now queue.old queue.new out.old out.new result }
+pub fn answer_all(file: &[u8], queue: &mut [u64], out: &mut [u32]) -> Result<(), Refusal>
+    ensures { Every file.now queue.old queue.new out.old out.new (refusal_in result) }
 {
-    let o = open_file(file);
-    match o {
-        Opened::Refused(number) => number,
-        Opened::Records {
-            edition,
-            first,
-            count,
-        } => {
-            if out.len() < 8 * count {
-                return 14;
-            }
-            answer_records(file, edition, first, count, queue, out);
-            0
-        }
+    let records = open_file(file)?;
+    if out.len() < 8 * records.count {
+        return Err(Refusal::Space);
     }
+    answer_records(file, records, queue, out);
+    Ok(())
 }
 
 // How many records a file of a form has.
-pub fn count_form(file: &[u8], form: Form, out: &mut [u32]) -> u32
-    ensures { Counted form file.now out.old out.new result }
+pub fn count_form(file: &[u8], form: Form, out: &mut [u32]) -> Result<(), Refusal>
+    ensures { Counted form file.now out.old out.new (refusal_in result) }
 {
-    let o = open_form(file, form);
-    match o {
-        Opened::Refused(number) => number,
-        Opened::Records {
-            edition,
-            first,
-            count,
-        } => {
-            if out.len() < 1 {
-                return 14;
-            }
-            out[0] = count as u32;
-            0
-        }
+    let records = open_form(file, form)?;
+    if out.len() < 1 {
+        return Err(Refusal::Space);
     }
+    out[0] = records.count as u32;
+    Ok(())
 }
 
 // How many records a query file has.
-pub fn count_records(file: &[u8], out: &mut [u32]) -> u32
-    ensures { Counted (file_form file.now) file.now out.old out.new result }
+pub fn count_records(file: &[u8], out: &mut [u32]) -> Result<(), Refusal>
+    ensures { Counted (file_form file.now) file.now out.old out.new (refusal_in result) }
 {
-    let form = file_form(file);
-    count_form(file, form, out)
+    count_form(file, file_form(file), out)
 }

@@ -1,5 +1,4 @@
 -- Laws that the proofs share.
-pub mod Fifteen
 pub mod Walking
 pub mod Passing
 pub mod Holder

@@ -1,14 +1,16 @@
 -- The check in one pass, step by step: what each step settles of R-6's plain rule. Assumes nothing.
 use Prim.Native.Nat.{ℕ, zero, suc}
 use mathlib.Core.Path.{◌≡◌, refl, sym, ap, ◌∙◌}
-use mathlib.Core.Bool.{Bool, true, false, not, cond, ◌&&◌, and-eq-true_iff}
+use mathlib.Core.Bool.{Bool, true, false, cond, ◌&&◌, and-eq-true_iff}
 use native.Mathlib.Omega.{arith}
 use mathlib.Core.List.{List}
 use lib.ListN.{length, replicate}
 use Rattle.rules.specs.declared.Terms.{Terms}
-use Rattle.rules.specs.Refusals.{or_else, search_refusal}
+use Rattle.rules.specs.declared.Refusal.{Refusal}
+use Rattle.rules.specs.Refusals.{number_of, or_else, search_refusal}
 use Rattle.rules.specs.declared.BodyAnswer.TheVariants.{Clear}
 use Rattle.rules.specs.Bodies.{Body, is_body, face, ask_of, queries_of, body_refusal, sum_of, cap_of, is_over}
+use Rattle.refusals.specs.Numbered.{not_zero}
 use Rattle.triangles.specs.InOrder.{none_refused, accepted}
 use Rattle.bodies.specs.Asking.{There}
 use Rattle.bodies.specs.Walk.{ToHear}
@@ -20,35 +22,34 @@ use Rattle.bodies.specs.Check.{is_right, one_pass, one_pass_lem}
 pub both : {x y u v : Bool} → x ≡ u → y ≡ v → (x && y) ≡ (u && v)
 both {x = x} {y = y} {u = u} {v = v} e f = ap (λ (z : Bool). z && y) e ∙ ap (λ (z : Bool). u && z) f
 
-pub turned : {x t : Bool} → not x ≡ t → x ≡ not t
-turned {x = true} e = ap not e
-turned {x = false} e = ap not e
-
-pub or_else_lem : (n m : ℕ) → (n ≡ 0 → ⊥) → or_else n m ≡ n
-or_else_lem zero m h = absurd (h refl)
-or_else_lem (suc n) m h = refl
+-- a refusal comes before any other
+pub comes_first : (r : Refusal) (m : ℕ) → or_else (number_of r) m ≡ number_of r
+comes_first r m = by (number_of r) (not_zero r)
+  where
+    by : (n : ℕ) → (n ≡ 0 → ⊥) → or_else n m ≡ n
+    by zero h = absurd (h refl)
+    by (suc n) h = refl
 
 module _ (w : Terms) (a b : Body) (words : ℕ) where
   pub no_bodies : (is_body a && is_body b) ≡ false → 21 ≡ body_refusal w a b words
   unfolding one_pass
   no_bodies e = sym (one_pass_lem w a b words ∙ ap (λ (t : Bool). cond t (or_else (search_refusal (ask_of w a b 0 0 (face 0 3 4 5)) words) (cond (is_right w.edition a && is_right w.edition b) 0 3)) 21) e)
 
-  module _ (e : (is_body a && is_body b) ≡ true) (n : ℕ) (f : n ≡ search_refusal (ask_of w a b 0 0 (face 0 3 4 5)) words) where
-    by_first : body_refusal w a b words ≡ or_else n (cond (is_right w.edition a && is_right w.edition b) 0 3)
+  module _ (e : (is_body a && is_body b) ≡ true) where
+    by_first : (n : ℕ) → n ≡ search_refusal (ask_of w a b 0 0 (face 0 3 4 5)) words → body_refusal w a b words ≡ or_else n (cond (is_right w.edition a && is_right w.edition b) 0 3)
     unfolding one_pass
-    by_first =
+    by_first n f =
         one_pass_lem w a b words
         ∙ ap (λ (t : Bool). cond t (or_else (search_refusal (ask_of w a b 0 0 (face 0 3 4 5)) words) (cond (is_right w.edition a && is_right w.edition b) 0 3)) 21) e
         ∙ ap (λ (m : ℕ). or_else m (cond (is_right w.edition a && is_right w.edition b) 0 3)) (sym f)
 
-    pub first_refused_lem : (n ≡ 0 → ⊥) → n ≡ body_refusal w a b words
-    first_refused_lem h = sym (by_first ∙ or_else_lem n _ h)
+    pub first_refused_lem : (r : Refusal) → number_of r ≡ search_refusal (ask_of w a b 0 0 (face 0 3 4 5)) words → number_of r ≡ body_refusal w a b words
+    first_refused_lem r f = sym (by_first (number_of r) f ∙ comes_first r _)
 
-    pub by_positions : (t : Bool) → n ≡ 0 → (is_right w.edition a && is_right w.edition b) ≡ t → cond t 0 3 ≡ body_refusal w a b words
-    by_positions t z r = sym (by_first ∙ ap (λ (m : ℕ). or_else m (cond (is_right w.edition a && is_right w.edition b) 0 3)) z ∙ ap (λ (x : Bool). cond x 0 3) r)
+    pub by_positions : 0 ≡ search_refusal (ask_of w a b 0 0 (face 0 3 4 5)) words → (t : Bool) → (is_right w.edition a && is_right w.edition b) ≡ t → cond t 0 3 ≡ body_refusal w a b words
+    by_positions f t r = sym (by_first 0 f ∙ ap (λ (x : Bool). cond x 0 3) r)
 
-  -- the first triangles are there
-  module _ (e : (is_body a && is_body b) ≡ true) where
+    -- the first triangles are there
     pub starts_there : There a.start b.start 0 0
     starts_there =
         let h = (and-eq-true_iff (is_body a) (is_body b)).0 e in

@@ -1,26 +1,27 @@
 -- Refused or answered: what comes back, what is told, and what is left of the queue. Assumes nothing.
-use Prim.Native.Nat.{ℕ, zero, suc, ◌-◌, ◌≤◌, ◌<◌}
+use Prim.Native.Nat.{ℕ, zero, suc, ◌≤◌, ◌<◌}
 use mathlib.Core.Path.{◌≡◌, refl, sym, ap, ◌∙◌}
 use mathlib.Core.Bool.{Bool, true, false, not, cond, ◌&&◌}
 use mathlib.Core.List.{List, [], ◌∷◌}
 use borrow.Author.Tests.{lt-ltb, le-ltb}
-use native.Mathlib.Omega.{arith}
 use lib.IntN.{ℤ}
-use lib.ListN.{length, replicate, take, drop}
+use lib.ListN.{length, replicate}
 use Rattle.rules.specs.declared.Told.{Told}
 use Rattle.rules.specs.declared.Terms.{Terms}
 use Rattle.rules.specs.declared.BodyAnswer.{BodyAnswer}
+use Rattle.rules.specs.declared.Refusal.{Refusal}
 use Rattle.rules.specs.declared.BodyAnswer.TheVariants.{Clear, Least, Refused}
 use Rattle.rules.specs.Answers.{told, has_moment}
 use Rattle.rules.specs.QueryFile.{is_edition}
-use Rattle.rules.specs.Refusals.{first, or_else}
+use Rattle.rules.specs.Refusals.{number_of, first, or_else}
 use Rattle.rules.specs.Search.{search as searched}
 use Rattle.rules.specs.Bodies.{Body, Asked, queries_of, body_refusal, counted, is_less, sum_of, heard, cap_of, capped, is_over, hear_next, hear_all, body_unless, body_search, queue_after_bodies}
 use Rattle.rules.specs.Bounds.{are_same, bounds_of, inexact, walk_refusal}
+use Rattle.refusals.specs.Numbered.{not_zero}
 use Rattle.answers.specs.Walk.{short}
-use Rattle.bodies.specs.Walk.{Lent, Heard}
+use Rattle.bodies.specs.Walk.{Heard}
 use Rattle.bodies.specs.Telling.{Answered, told_refusal}
-use Rattle.bodies.proofs.Refusing.{or_else_lem}
+use Rattle.bodies.proofs.Refusing.{comes_first}
 
 -- what is heard is no refusal
 abbrev IsAnswer : BodyAnswer → Type 0
@@ -65,18 +66,17 @@ after_answer (Clear sum) queue h = refl
 after_answer (Least t i j query word excess sum) queue h = refl
 after_answer (Refused number) queue h = absurd h
 
--- where no bounds are lent, nothing is asked of them
-pub none_lent : (m : ℕ) (s e l : List ℤ) → Lent m s e (take (0 - 0) (drop 0 l))
-none_lent m s e l h = absurd (omega arith)
-
 module _ (w : Terms) (a b : Body) (queue : List ℕ) where
   -- a refusal touches nothing
-  pub refused : (n : ℕ) → n ≡ body_refusal w a b (length queue) → (n ≡ 0 → ⊥) → Answered w a b queue queue (Refused n)
+  pub refused : (r : Refusal) → number_of r ≡ body_refusal w a b (length queue) → Answered w a b queue queue (Refused (number_of r))
   unfolding queue_after_bodies body_search body_unless
-  refused zero e h = absurd (h refl)
-  refused (suc n) e h =
-      let s : Refused (suc n) ≡ body_search w a b (length queue) = ap (λ (m : ℕ). body_unless m (hear_all (length queue) (Clear 0) (queries_of w a b))) e in
-      record { says = s; left = ap (λ (x : BodyAnswer). queue_after_bodies x queue) s }
+  refused r e = by (number_of r) e (not_zero r)
+    where
+      by : (n : ℕ) → n ≡ body_refusal w a b (length queue) → (n ≡ 0 → ⊥) → Answered w a b queue queue (Refused n)
+      by zero e h = absurd (h refl)
+      by (suc n) e h =
+          let s : Refused (suc n) ≡ body_search w a b (length queue) = ap (λ (m : ℕ). body_unless m (hear_all (length queue) (Clear 0) (queries_of w a b))) e in
+          record { says = s; left = ap (λ (x : BodyAnswer). queue_after_bodies x queue) s }
 
   -- every query heard from a queue of zeros
   pub answered : (cleared queue' : List ℕ) (r : BodyAnswer) → body_refusal w a b (length queue) ≡ 0 → cleared ≡ replicate (length queue) 0 → length cleared ≡ length queue
@@ -96,9 +96,9 @@ module _ (w : Terms) (a b : Body) (queue : List ℕ) where
     exact = are_same of_a (bounds_of a) && are_same of_b (bounds_of b)
 
     -- 21 and the queries' own come first
-    pub walk_refused : (n : ℕ) → n ≡ body_refusal w a b (length queue) → (n ≡ 0 → ⊥) → n ≡ walk_refusal w a of_a b of_b (length queue)
+    pub walk_refused : (r : Refusal) → number_of r ≡ body_refusal w a b (length queue) → number_of r ≡ walk_refusal w a of_a b of_b (length queue)
     unfolding walk_refusal
-    walk_refused n e h = sym (ap (λ (m : ℕ). or_else m (first (inexact a of_a b of_b ∷ []))) (sym e) ∙ or_else_lem n _ h)
+    walk_refused r e = sym (ap (λ (m : ℕ). or_else m (first (inexact a of_a b of_b ∷ []))) (sym e) ∙ comes_first r _)
 
     pub walk_by : 0 ≡ body_refusal w a b (length queue) → (t : Bool) → exact ≡ t → cond t 0 27 ≡ walk_refusal w a of_a b of_b (length queue)
     unfolding walk_refusal first
@@ -120,8 +120,8 @@ module _ (edition own : ℕ) (out : List ℕ) where
   tell_none f = sym (by_edition false f)
 
   module _ (f : is_edition edition ≡ true) where
-    pub tell_refused : (n : ℕ) → n ≡ own → (n ≡ 0 → ⊥) → n ≡ told_refusal edition own out
-    tell_refused n e h = sym (by_edition true f ∙ ap (λ (m : ℕ). or_else m (first (short out 8 ∷ []))) (sym e) ∙ or_else_lem n _ h)
+    pub tell_refused : (r : Refusal) → number_of r ≡ own → number_of r ≡ told_refusal edition own out
+    tell_refused r e = sym (by_edition true f ∙ ap (λ (m : ℕ). or_else m (first (short out 8 ∷ []))) (sym e) ∙ comes_first r _)
 
     module _ (e : 0 ≡ own) where
       accepts : told_refusal edition own out ≡ first (short out 8 ∷ [])

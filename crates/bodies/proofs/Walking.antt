@@ -75,10 +75,6 @@ module _ (n m : ℕ) (all left ps qs : List Asked) (before queue : List ℕ) (fi
         step = subst (λ (x : BodyAnswer). cap_of x ≤ 1048576) (sym s) (caps_in_step (length before) ps sofar g.step);
       }
 
--- one stretch, and then another
-pub going_then : {n m : ℕ} {all left rest : List Asked} {before queue : List ℕ} {first sofar r : BodyAnswer} → Going n all left before before first sofar → Going m left rest before queue sofar r → Going (n + m) all rest before queue first r
-going_then g h = record { same = g.same ∙ h.same; none = h.none; kept = h.kept; grows = omega (arith, g.grows, h.grows); step = h.step }
-
 pub going_all : (n m : ℕ) (all left : List Asked) (before queue : List ℕ) (first sofar : BodyAnswer) → Going n all left before queue first sofar → left ≡ [] → n ≤ m
     → Heard m all before queue first sofar
 unfolding hear_all

@@ -4,6 +4,7 @@ use Rattle.rules.specs.declared.Record.{Record}
 use Rattle.rules.specs.declared.Terms.{Terms}
 use Rattle.rules.specs.declared.Ask.{Ask}
 use Rattle.rules.specs.Bodies.{corner_place, ask_of}
+use Rattle.bounds.specs.declared.Body.{Body as LentBody}
 use Rattle.bounds.specs.Reach.{body}
 use Rattle.bodies.specs.declared.asking.Point.{Point}
 use Rattle.bodies.specs.declared.asking.Four.{Four}
@@ -47,5 +48,5 @@ pub record Corners (k : Ask) : Type 0 where
   pub s : k.s < 6
 
 -- the counts of triangles have no part in a query
-abbrev pub QueryIs : Terms → List ℤ → List ℤ → List ℤ → List ℤ → ℕ → ℕ → Ask → Record → Type 0
-QueryIs w a0 a1 b0 b1 i j k r = (m n : ℕ) → r ≡ ask_of w (body m a0 a1) (body n b0 b1) i j k
+abbrev pub QueryIs : Terms → LentBody → LentBody → ℕ → ℕ → Ask → Record → Type 0
+QueryIs w a b i j k r = (m n : ℕ) → r ≡ ask_of w (body m a.start.now a.end.now) (body n b.start.now b.end.now) i j k

@@ -8,7 +8,8 @@ use Rattle.rules.specs.Refusals.{search_refusal}
 use Rattle.rules.specs.Bodies.{Body, Asked, pair_queries, each_from, body_refusal, sum_of, heard, cap_of, is_over, hear_all}
 use Rattle.rules.specs.Bounds.{bounds_of}
 use Rattle.triangles.specs.Members.{All, asked, ask_at}
-use Rattle.bounds.specs.Reach.{body}
+use Rattle.bounds.specs.declared.Body.{Body as LentBody}
+use Rattle.bounds.specs.Reach.{body, body_of}
 use Rattle.bodies.specs.Asking.{There}
 
 -- no bounds are lent, or those of a body of n triangles
@@ -18,6 +19,9 @@ Lent n s e bounds = 0 < length bounds → bounds ≡ bounds_of (body n s e)
 -- positions alone: how many triangles there are has no part in a query
 abbrev pub positions : List ℤ → List ℤ → Body
 positions start end = body 0 start end
+
+abbrev pub positions_of : LentBody → Body
+positions_of m = positions m.start.now m.end.now
 
 -- ---- the sum of counts: a count has 32 bits, and 256 · 256 · 15 of them come to less than 2^52
 
@@ -58,46 +62,46 @@ abbrev pub row_queries : Terms → Body → Body → ℕ → ℕ → List Asked
 row_queries w a b i n = each_from 0 n (λ j. pair_queries w a b i j)
 
 -- each of them heard, by the positions
-abbrev pub QueryHeard : Terms → List ℤ → List ℤ → List ℤ → List ℤ → ℕ → ℕ → ℕ → List ℕ → List ℕ → BodyAnswer → BodyAnswer → Type 0
-QueryHeard w a0 a1 b0 b1 i j k = Heard 1 (query_alone w (positions a0 a1) (positions b0 b1) i j k)
+abbrev pub QueryHeard : Terms → LentBody → LentBody → ℕ → ℕ → ℕ → List ℕ → List ℕ → BodyAnswer → BodyAnswer → Type 0
+QueryHeard w a b i j k = Heard 1 (query_alone w (positions_of a) (positions_of b) i j k)
 
-abbrev pub PairHeard : Terms → List ℤ → List ℤ → List ℤ → List ℤ → ℕ → ℕ → List ℕ → List ℕ → BodyAnswer → BodyAnswer → Type 0
-PairHeard w a0 a1 b0 b1 i j = Heard 15 (pair_queries w (positions a0 a1) (positions b0 b1) i j)
+abbrev pub PairHeard : Terms → LentBody → LentBody → ℕ → ℕ → List ℕ → List ℕ → BodyAnswer → BodyAnswer → Type 0
+PairHeard w a b i j = Heard 15 (pair_queries w (positions_of a) (positions_of b) i j)
 
-abbrev pub RowHeard : Terms → List ℤ → List ℤ → List ℤ → List ℤ → ℕ → ℕ → List ℕ → List ℕ → BodyAnswer → BodyAnswer → Type 0
-RowHeard w a0 a1 b0 b1 i n = Heard 3840 (row_queries w (positions a0 a1) (positions b0 b1) i n)
+abbrev pub RowHeard : Terms → LentBody → LentBody → ℕ → List ℕ → List ℕ → BodyAnswer → BodyAnswer → Type 0
+RowHeard w a b i = Heard 3840 (row_queries w (positions_of a) (positions_of b) i b.count)
 
-pub record OfQuery (w : Terms) (a0 a1 b0 b1 : List ℤ) (i j k : ℕ) (queue : List ℕ) (sofar : BodyAnswer) : Type 0 where
-  pub start : There a0 b0 i j
-  pub end : There a1 b1 i j
+pub record OfQuery (w : Terms) (a b : LentBody) (i j k : ℕ) (queue : List ℕ) (sofar : BodyAnswer) : Type 0 where
+  pub start : There a.start.now b.start.now i j
+  pub end : There a.end.now b.end.now i j
   pub first : i < 256
   pub second : j < 256
   pub query : k < 15
-  pub to_hear : ToHear 1 (query_alone w (positions a0 a1) (positions b0 b1) i j k) queue sofar
+  pub to_hear : ToHear 1 (query_alone w (positions_of a) (positions_of b) i j k) queue sofar
 
-pub record OfPair (w : Terms) (a0 a1 b0 b1 : List ℤ) (i j : ℕ) (queue : List ℕ) (sofar : BodyAnswer) : Type 0 where
-  pub start : There a0 b0 i j
-  pub end : There a1 b1 i j
+pub record OfPair (w : Terms) (a b : LentBody) (i j : ℕ) (queue : List ℕ) (sofar : BodyAnswer) : Type 0 where
+  pub start : There a.start.now b.start.now i j
+  pub end : There a.end.now b.end.now i j
   pub first : i < 256
   pub second : j < 256
-  pub to_hear : ToHear 15 (pair_queries w (positions a0 a1) (positions b0 b1) i j) queue sofar
+  pub to_hear : ToHear 15 (pair_queries w (positions_of a) (positions_of b) i j) queue sofar
 
-pub record OfRow (w : Terms) (a0 a1 : List ℤ) (i n : ℕ) (b0 b1 of_b : List ℤ) (queue : List ℕ) (sofar : BodyAnswer) : Type 0 where
-  pub start_of_a : 9 * i + 9 ≤ length a0
-  pub end_of_a : 9 * i + 9 ≤ length a1
-  pub start_of_b : 9 * n ≤ length b0
-  pub end_of_b : 9 * n ≤ length b1
-  pub lent : Lent n b0 b1 of_b
+pub record OfRow (w : Terms) (a : LentBody) (i : ℕ) (b : LentBody) (of_b : List ℤ) (queue : List ℕ) (sofar : BodyAnswer) : Type 0 where
+  pub start_of_a : 9 * i + 9 ≤ length a.start.now
+  pub end_of_a : 9 * i + 9 ≤ length a.end.now
+  pub start_of_b : 9 * b.count ≤ length b.start.now
+  pub end_of_b : 9 * b.count ≤ length b.end.now
+  pub lent : Lent b.count b.start.now b.end.now of_b
   pub first : i < 256
-  pub count : n ≤ 256
-  pub to_hear : ToHear 3840 (row_queries w (positions a0 a1) (positions b0 b1) i n) queue sofar
+  pub count : b.count ≤ 256
+  pub to_hear : ToHear 3840 (row_queries w (positions_of a) (positions_of b) i b.count) queue sofar
 
 -- the bodies are not refused, and the lists, where any are lent, are their bounds
-pub record ToWalk (w : Terms) (m : ℕ) (a0 a1 of_a : List ℤ) (n : ℕ) (b0 b1 of_b : List ℤ) (words : ℕ) : Type 0 where
-  pub none : body_refusal w (body m a0 a1) (body n b0 b1) words ≡ 0
-  pub of_a_lem : Lent m a0 a1 of_a
-  pub of_b_lem : Lent n b0 b1 of_b
+pub record ToWalk (w : Terms) (a : LentBody) (of_a : List ℤ) (b : LentBody) (of_b : List ℤ) (words : ℕ) : Type 0 where
+  pub none : body_refusal w (body_of a) (body_of b) words ≡ 0
+  pub of_a_lem : Lent a.count a.start.now a.end.now of_a
+  pub of_b_lem : Lent b.count b.start.now b.end.now of_b
 
-pub record OfBodies (w : Terms) (m : ℕ) (a0 a1 of_a : List ℤ) (n : ℕ) (b0 b1 of_b : List ℤ) (queue : List ℕ) : Type 0 where
-  pub to_walk : ToWalk w m a0 a1 of_a n b0 b1 of_b (length queue)
+pub record OfBodies (w : Terms) (a : LentBody) (of_a : List ℤ) (b : LentBody) (of_b : List ℤ) (queue : List ℕ) : Type 0 where
+  pub to_walk : ToWalk w a of_a b of_b (length queue)
   pub zero : queue ≡ replicate (length queue) 0

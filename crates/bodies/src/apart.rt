@@ -8,7 +8,8 @@ ghost use Rattle.bodies.specs.Between.{Further};
 ghost use Rattle.bodies.specs.Apart.{DistantFrom};
 ghost use Rattle.bodies.specs.Passed.{Passed, Asunder, AllAsunder, AloneBy, Alone, HasBound, HasBounds, Near};
 
-use bounds::block::{block_end, bound_at};
+use bounds::Body;
+use bounds::block::{block_end, blocks, bound_at};
 use bounds::reach::{Reach, X, Y, Z, triangle_at};
 use gap::cube::over_cube;
 use gap::span::Span;
@@ -21,7 +22,7 @@ fn are_apart(p: Span, q: Span, d: u32) -> bool
 {
     let over = p.least - q.greatest;
     let under = q.least - p.greatest;
-    let limit = d as i64;
+    let limit = i64::from(d);
     if limit < over { true } else { limit < under }
 }
 
@@ -54,14 +55,12 @@ fn next_in(w: Terms, r: Reach, s: &[i32], e: &[i32], from: usize, n: usize) -> u
     requires { WideReach r × ((from ≤ n) × ((9 * n ≤ length s.now) × (9 * n ≤ length e.now))) }
     ensures { Passed (DistantFrom w r s.now e.now) from n result }
 {
-    let mut j = from;
-    while j < n {
+    for j in from..n {
         if !are_distant(w, r, s, e, j) {
             return j;
         }
-        j += 1;
     }
-    j
+    n
 }
 
 // ---- blocks
@@ -71,7 +70,7 @@ fn is_asunder(w: Terms, r: Reach, bounds: &[i32], block: usize) -> bool
     requires { WideReach r × HasBound bounds.now block }
     ensures { result ≡ true → Asunder w r bounds.now block }
 {
-    if bounds.len() == 0 {
+    if bounds.is_empty() {
         return false;
     }
     let b = bound_at(bounds, block);
@@ -85,23 +84,15 @@ fn is_asunder(w: Terms, r: Reach, bounds: &[i32], block: usize) -> bool
 }
 
 // The first triangle of B, from one on, that is near a triangle of A, by its reach: whole blocks are passed over by their bounds.
-pub fn next_near(
-    w: Terms,
-    r: Reach,
-    s: &[i32],
-    e: &[i32],
-    bounds: &[i32],
-    from: usize,
-    n: usize,
-) -> usize
-    requires { WideReach r × Near n s.now e.now bounds.now from }
-    ensures { Passed (DistantFrom w r s.now e.now) from n result }
+pub fn next_near(w: Terms, r: Reach, b: Body, bounds: &[i32], from: usize) -> usize
+    requires { WideReach r × Near b.count b.start.now b.end.now bounds.now from }
+    ensures { Passed (DistantFrom w r b.entry.start.now b.entry.end.now) from b.entry.count result }
 {
     let mut j = from;
-    while j < n {
-        let end = block_end(n, j / 32);
+    while j < b.count {
+        let end = block_end(b.count, j / 32);
         if !is_asunder(w, r, bounds, j / 32) {
-            let near = next_in(w, r, s, e, j, end);
+            let near = next_in(w, r, b.start, b.end, j, end);
             if near < end {
                 return near;
             }
@@ -116,12 +107,10 @@ fn is_alone(w: Terms, r: Reach, bounds: &[i32], n: usize) -> bool
     requires { WideReach r × HasBounds bounds.now n }
     ensures { result ≡ true → AllAsunder w r bounds.now n }
 {
-    let mut block = 0;
-    while 32 * block < n {
+    for block in 0..blocks(n) {
         if !is_asunder(w, r, bounds, block) {
             return false;
         }
-        block += 1;
     }
     true
 }
@@ -131,7 +120,7 @@ fn is_block_alone(w: Terms, abounds: &[i32], block: usize, bbounds: &[i32], n: u
     requires { HasBound abounds.now block × HasBounds bbounds.now n }
     ensures { result ≡ true → AloneBy w abounds.now bbounds.now n block }
 {
-    if abounds.len() == 0 {
+    if abounds.is_empty() {
         return false;
     }
     is_alone(w, bound_at(abounds, block), bbounds, n)

@@ -4,6 +4,7 @@ ghost use Rattle.rules.specs.Bodies.{face, edges};
 ghost use Rattle.triangles.specs.Members.{ask_at};
 ghost use Rattle.bodies.specs.Asking.{point_at, corner_at, four_at, points_of, after, There, Corners, QueryIs};
 
+use bounds::Body;
 use rules::{Ask, Record, Terms};
 
 #[derive(Clone, Copy)]
@@ -109,29 +110,26 @@ fn four_at(a: &[i32], b: &[i32], i: usize, j: usize, k: Ask) -> Four
 fn points_of(f: Four, g: Four) -> [i32; 24]
     ensures { result ≡ points_of f g }
 {
+    let Four { p, q, r, s } = f;
+    let Four {
+        p: p1,
+        q: q1,
+        r: r1,
+        s: s1,
+    } = g;
     [
-        f.p.x, f.p.y, f.p.z, f.q.x, f.q.y, f.q.z, f.r.x, f.r.y, f.r.z, f.s.x, f.s.y, f.s.z, g.p.x, g
-            .p
-            .y, g.p.z, g.q.x, g.q.y, g.q.z, g.r.x, g.r.y, g.r.z, g.s.x, g.s.y, g.s.z,
+        p.x, p.y, p.z, q.x, q.y, q.z, r.x, r.y, r.z, s.x, s.y, s.z, p1.x, p1.y, p1.z, q1.x, q1.y,
+        q1.z, r1.x, r1.y, r1.z, s1.x, s1.y, s1.z,
     ]
 }
 
 // A query of the pair i, j as the search takes it.
-fn query_of(
-    w: Terms,
-    a0: &[i32],
-    a1: &[i32],
-    b0: &[i32],
-    b1: &[i32],
-    i: usize,
-    j: usize,
-    k: Ask,
-) -> Record
-    requires { There a0.now b0.now i j × There a1.now b1.now i j × Corners k }
-    ensures { QueryIs w a0.now a1.now b0.now b1.now i j k result }
+fn query_of(w: Terms, a: Body, b: Body, i: usize, j: usize, k: Ask) -> Record
+    requires { There a.start.now b.start.now i j × There a.end.now b.end.now i j × Corners k }
+    ensures { QueryIs w a.entry b.entry i j k result }
 {
-    let start = four_at(a0, b0, i, j, k);
-    let end = four_at(a1, b1, i, j, k);
+    let start = four_at(a.start, b.start, i, j, k);
+    let end = four_at(a.end, b.end, i, j, k);
     let points = points_of(start, end);
     Record {
         kind: k.kind,
@@ -151,19 +149,9 @@ fn query_of(
 }
 
 // Query k of the pair i, j, counted from 0 here.
-pub fn query_at(
-    w: Terms,
-    a0: &[i32],
-    a1: &[i32],
-    b0: &[i32],
-    b1: &[i32],
-    i: usize,
-    j: usize,
-    k: usize,
-) -> Record
-    requires { There a0.now b0.now i j × There a1.now b1.now i j × (k < 15) }
-    ensures { QueryIs w a0.now a1.now b0.now b1.now i j (ask_at k) result }
+pub fn query_at(w: Terms, a: Body, b: Body, i: usize, j: usize, k: usize) -> Record
+    requires { There a.start.now b.start.now i j × There a.end.now b.end.now i j × (k < 15) }
+    ensures { QueryIs w a.entry b.entry i j (ask_at k) result }
 {
-    let ask = ask_at(k);
-    query_of(w, a0, a1, b0, b1, i, j, ask)
+    query_of(w, a, b, i, j, ask_at(k))
 }

@@ -17,17 +17,9 @@ fn is_less(t: u32, sofar: BodyAnswer) -> bool
     ensures { result ≡ is_less t sofar }
 {
     match sofar {
-        BodyAnswer::Clear(sum) => true,
-        BodyAnswer::Least {
-            t: least,
-            a,
-            b,
-            query,
-            word,
-            excess,
-            count,
-        } => t < least,
-        BodyAnswer::Refused(number) => false,
+        BodyAnswer::Clear(_) => true,
+        BodyAnswer::Least { t: least, .. } => t < least,
+        BodyAnswer::Refused(_) => false,
     }
 }
 
@@ -36,17 +28,8 @@ pub fn cap_of(sofar: BodyAnswer) -> u32
     ensures { result ≡ cap_of sofar }
 {
     match sofar {
-        BodyAnswer::Clear(sum) => 0,
-        BodyAnswer::Least {
-            t,
-            a,
-            b,
-            query,
-            word,
-            excess,
-            count,
-        } => t,
-        BodyAnswer::Refused(number) => 0,
+        BodyAnswer::Least { t, .. } => t,
+        BodyAnswer::Clear(_) | BodyAnswer::Refused(_) => 0,
     }
 }
 
@@ -55,17 +38,8 @@ pub fn is_over(sofar: BodyAnswer) -> bool
     ensures { result ≡ is_over sofar }
 {
     match sofar {
-        BodyAnswer::Clear(sum) => false,
-        BodyAnswer::Least {
-            t,
-            a,
-            b,
-            query,
-            word,
-            excess,
-            count,
-        } => t == 0,
-        BodyAnswer::Refused(number) => false,
+        BodyAnswer::Least { t, .. } => t == 0,
+        BodyAnswer::Clear(_) | BodyAnswer::Refused(_) => false,
     }
 }
 
@@ -74,16 +48,8 @@ fn sum_of(sofar: BodyAnswer) -> u64
 {
     match sofar {
         BodyAnswer::Clear(sum) => sum,
-        BodyAnswer::Least {
-            t,
-            a,
-            b,
-            query,
-            word,
-            excess,
-            count,
-        } => count,
-        BodyAnswer::Refused(number) => 0,
+        BodyAnswer::Least { count, .. } => count,
+        BodyAnswer::Refused(_) => 0,
     }
 }
 
@@ -110,7 +76,7 @@ pub fn counted(n: u64, sofar: BodyAnswer) -> BodyAnswer
             excess,
             count: count + n,
         },
-        BodyAnswer::Refused(number) => BodyAnswer::Refused(number),
+        BodyAnswer::Refused(_) => sofar,
     }
 }
 

@@ -40,6 +40,6 @@ pub fn write_told(out: &mut [u32], answer: BodyAnswer)
             write_four(out, 0, word, t, a, b);
             write_four(out, 4, query, excess, low(count), high(count));
         }
-        BodyAnswer::Refused(number) => {}
+        BodyAnswer::Refused(_) => {}
     }
 }

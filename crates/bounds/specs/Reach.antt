@@ -18,9 +18,14 @@ use Rattle.gap.specs.declared.span.Span.{Span}
 use Rattle.gap.specs.Cube.{cube_of, cube_most}
 use Rattle.gap.specs.Steps.{SmallSpan}
 use Rattle.bounds.specs.declared.reach.Reach.{Reach}
+use Rattle.bounds.specs.declared.Body.{Body as LentBody}
 
 abbrev pub body : ℕ → List ℤ → List ℤ → Body
 body n start end = record { count = n; start = start; end = end }
+
+-- one that is lent
+abbrev pub body_of : LentBody → Body
+body_of m = body m.count m.start.now m.end.now
 
 -- ---- a triangle on an axis
 

@@ -2,11 +2,12 @@
 ghost use Rattle.std.specs.Prelude.{◌≡◌, ◌+◌, ◌*◌, ◌≤◌, ◌<◌, ◌+ℤ◌, ◌-ℤ◌, length};
 ghost use Rattle.rules.specs.QueryFile.{put};
 ghost use Rattle.whole.specs.Defs.{min_z, max_z};
-ghost use Rattle.rules.specs.Bounds.{over_face, blocks, first_of, size_of, bound, is_same};
-ghost use Rattle.bounds.specs.Reach.{body};
+ghost use Rattle.rules.specs.Bounds.{over_face, blocks, first_of, size_of, bound};
+ghost use Rattle.bounds.specs.Reach.{body_of};
 ghost use Rattle.bounds.specs.Block.{Small, FaceIn, BlockIn, EndsAre, HasBlock};
 ghost use Rattle.bounds.specs.Lists.{six_of, set_span, is_span, are_spans, LentSpan, BoundIs};
 
+use super::Body;
 use super::reach::{Reach, X, Y, Z};
 use gap::span::Span;
 
@@ -23,8 +24,7 @@ pub fn block_end(count: usize, block: usize) -> usize
     requires { (32 * block < count) × (count ≤ 256) }
     ensures { result ≡ first_of block + size_of count block }
 {
-    let end = 32 * block + 32;
-    if count < end { count } else { end }
+    count.min(32 * block + 32)
 }
 
 // ---- what a block's triangles reach
@@ -44,16 +44,15 @@ pub struct Bound {
     pub z: Ends,
 }
 
-fn lesser(x: i32, y: i32) -> i32
-    ensures { result ≡ min_z x y }
+// The ends of two together.
+fn joined(p: Ends, q: Ends) -> Ends
+    ensures least { result.least ≡ min_z p.least q.least }
+    ensures greatest { result.greatest ≡ max_z p.greatest q.greatest }
 {
-    if x <= y { x } else { y }
-}
-
-fn greater(x: i32, y: i32) -> i32
-    ensures { result ≡ max_z x y }
-{
-    if x <= y { y } else { x }
+    Ends {
+        least: p.least.min(q.least),
+        greatest: p.greatest.max(q.greatest),
+    }
 }
 
 // The fourth corner of a triangle's parallelogram.
@@ -65,37 +64,28 @@ fn fourth(v1: i32, v2: i32, v3: i32) -> i32
 }
 
 // A triangle at one moment, its fourth corner too, by the place of its first coordinate on an axis.
-fn face_least(s: &[i32], at: usize) -> i32
+fn face_ends(s: &[i32], at: usize) -> Ends
     requires { FaceIn s.now at }
-    ensures { result ≡ over_face min_z s.now at }
+    ensures least { result.least ≡ over_face min_z s.now at }
+    ensures greatest { result.greatest ≡ over_face max_z s.now at }
 {
-    let corners = lesser(s[at], s[at + 3]);
-    let others = lesser(s[at + 6], fourth(s[at], s[at + 3], s[at + 6]));
-    lesser(corners, others)
-}
-
-fn face_greatest(s: &[i32], at: usize) -> i32
-    requires { FaceIn s.now at }
-    ensures { result ≡ over_face max_z s.now at }
-{
-    let corners = greater(s[at], s[at + 3]);
-    let others = greater(s[at + 6], fourth(s[at], s[at + 3], s[at + 6]));
-    greater(corners, others)
+    let v1 = s[at];
+    let v2 = s[at + 3];
+    let v3 = s[at + 6];
+    let v4 = fourth(v1, v2, v3);
+    Ends {
+        least: v1.min(v2).min(v3.min(v4)),
+        greatest: v1.max(v2).max(v3.max(v4)),
+    }
 }
 
 // A triangle at both moments.
-fn triangle_least(s: &[i32], e: &[i32], at: usize) -> i32
+fn triangle_ends(s: &[i32], e: &[i32], at: usize) -> Ends
     requires { FaceIn s.now at × FaceIn e.now at }
-    ensures { result ≡ min_z (over_face min_z s.now at) (over_face min_z e.now at) }
+    ensures least { result.least ≡ min_z (over_face min_z s.now at) (over_face min_z e.now at) }
+    ensures greatest { result.greatest ≡ max_z (over_face max_z s.now at) (over_face max_z e.now at) }
 {
-    lesser(face_least(s, at), face_least(e, at))
-}
-
-fn triangle_greatest(s: &[i32], e: &[i32], at: usize) -> i32
-    requires { FaceIn s.now at × FaceIn e.now at }
-    ensures { result ≡ max_z (over_face max_z s.now at) (over_face max_z e.now at) }
-{
-    greater(face_greatest(s, at), face_greatest(e, at))
+    joined(face_ends(s, at), face_ends(e, at))
 }
 
 // The triangles from one on, before another; the loop begins with a coordinate of the first, so that it goes over all of them alike.
@@ -103,47 +93,39 @@ fn ends_on(s: &[i32], e: &[i32], axis: usize, first: usize, end: usize) -> Ends
     requires { BlockIn s.now e.now axis first end }
     ensures { EndsAre s.now e.now axis first end result }
 {
-    let mut least = s[9 * first + axis];
-    let mut greatest = s[9 * first + axis];
-    let mut i = first;
-    while i < end {
-        least = lesser(least, triangle_least(s, e, 9 * i + axis));
-        greatest = greater(greatest, triangle_greatest(s, e, 9 * i + axis));
-        i += 1;
+    let one = s[9 * first + axis];
+    let mut ends = Ends {
+        least: one,
+        greatest: one,
+    };
+    for i in first..end {
+        ends = joined(ends, triangle_ends(s, e, 9 * i + axis));
     }
-    Ends { least, greatest }
+    ends
 }
 
-pub fn bound_of(count: usize, s: &[i32], e: &[i32], block: usize) -> Bound
-    requires { HasBlock count s.now e.now block }
-    ensures { six_of result ≡ bound (body count s.now e.now) block }
+pub fn bound_of(m: Body, block: usize) -> Bound
+    requires { HasBlock m.count m.start.now m.end.now block }
+    ensures { six_of result ≡ bound (body_of m.entry) block }
 {
     let first = 32 * block;
-    let end = block_end(count, block);
-    let x = ends_on(s, e, X, first, end);
-    let y = ends_on(s, e, Y, first, end);
-    let z = ends_on(s, e, Z, first, end);
+    let end = block_end(m.count, block);
+    let x = ends_on(m.start, m.end, X, first, end);
+    let y = ends_on(m.start, m.end, Y, first, end);
+    let z = ends_on(m.start, m.end, Z, first, end);
     Bound { x, y, z }
 }
 
 // ---- in a lent list
-
-fn wide(x: i32) -> i64
-    ensures { result ≡ x }
-{
-    x as i64
-}
 
 // On one axis: its least at a place, its greatest three behind.
 fn span_at(bounds: &[i32], at: usize) -> Span
     requires { at + 4 ≤ length bounds.now }
     ensures { LentSpan bounds.now at result }
 {
-    let m = wide(bounds[at]);
-    let g = wide(bounds[at + 3]);
     Span {
-        least: m,
-        greatest: g,
+        least: i64::from(bounds[at]),
+        greatest: i64::from(bounds[at + 3]),
     }
 }
 
@@ -157,18 +139,11 @@ pub fn bound_at(bounds: &[i32], block: usize) -> Reach
     Reach { x, y, z }
 }
 
-fn is_same(m: i32, n: i32) -> bool
-    ensures { result ≡ is_same m n }
-{
-    (m <= n) & (n <= m)
-}
-
 fn is_span(bounds: &[i32], at: usize, s: Ends) -> bool
     requires { at + 4 ≤ length bounds.now }
     ensures { result ≡ is_span bounds.now at s }
 {
-    let least = is_same(bounds[at], s.least);
-    least & is_same(bounds[at + 3], s.greatest)
+    (bounds[at] == s.least) & (bounds[at + 3] == s.greatest)
 }
 
 // Whether a block's bound in the list is what its triangles give.
@@ -187,10 +162,8 @@ fn write_span(bounds: &mut [i32], at: usize, s: Ends)
     requires { at + 4 ≤ length bounds.old }
     ensures { bounds.new ≡ set_span bounds.old at s }
 {
-    let least = s.least;
-    let greatest = s.greatest;
-    bounds[at] = least;
-    bounds[at + 3] = greatest;
+    bounds[at] = s.least;
+    bounds[at + 3] = s.greatest;
 }
 
 pub fn write_bound(bounds: &mut [i32], block: usize, r: Bound)

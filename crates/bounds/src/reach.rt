@@ -28,12 +28,12 @@ pub fn triangle_at(s: &[i32], e: &[i32], at: usize) -> Kernel
     let b1 = minus(e[at + 3], e[at]);
     let c1 = minus(e[at + 6], e[at]);
     Kernel {
-        a0: a0,
-        b0: b0,
-        c0: c0,
-        a1: a1,
-        b1: b1,
-        c1: c1,
+        a0,
+        b0,
+        c0,
+        a1,
+        b1,
+        c1,
     }
 }
 

@@ -58,6 +58,7 @@ pub fn half_by(bits: u64, one: u64, high: bool, w: u64) -> u64
 }
 
 // The word of a half by the parameter that is split.
+#[tactic(auto, using(crate::specs::Words::half_by_lem))]
 pub fn half(p: Parameter, high: bool, w: u64) -> u64
     requires { w < 2 ^ 60 }
     ensures { result ≡ stored (half_of p high (box_of w)) }

@@ -1,12 +1,11 @@
 -- A number read digit by digit.
-use Rattle.std.specs.Prelude.{ℕ, ◌+◌, ◌≤◌, ◌<◌, ◌≡◌, refl, true, false, List, [], ◌∷◌, length, drop}
+use Rattle.std.specs.Prelude.{ℕ, ◌+◌, ◌≤◌, ◌<◌, ◌≡◌, refl, true, false, List, [], ◌∷◌, Some, None, length, drop}
 use Rattle.std.proofs.Common.{◌∙◌, arith, add-one, drop-cons, get_or}
 use Rattle.std.proofs.Math.Path.{sym}
 use Rattle.std.proofs.Math.ListN.{drop_of_length-le}
-use Rattle.console.specs.declared.Number.TheVariants.{Is, Not}
 use Rattle.console.specs.Number.{is_digit, and_digit, read_from, number_of}
 
-pub none : (s : List ℕ) → length s ≡ 0 → Not ≡ number_of s
+pub none : (s : List ℕ) → length s ≡ 0 → None ≡ number_of s
 unfolding number_of
 none [] h = refl
 none (b ∷ bs) h = absurd (omega arith)
@@ -20,7 +19,7 @@ module _ (s : List ℕ) (n i : ℕ) where
   front : i < length s → read_from n (drop i s) ≡ read_from n (get_or s i 0 ∷ drop (i + 1) s)
   front h = rw (add-one, ← drop-cons s i 0)
 
-  pub stops : i < length s → is_digit (get_or s i 0) ≡ false → Not ≡ read_from n (drop i s)
+  pub stops : i < length s → is_digit (get_or s i 0) ≡ false → None ≡ read_from n (drop i s)
   unfolding read_from
   stops h e = sym (front h ∙ rw e)
 
@@ -28,6 +27,6 @@ module _ (s : List ℕ) (n i : ℕ) where
   unfolding read_from
   goes_on h e = sym (front h ∙ rw e)
 
-  pub ends : length s ≤ i → Is n ≡ read_from n (drop i s)
+  pub ends : length s ≤ i → Some n ≡ read_from n (drop i s)
   unfolding read_from
   ends h = rw (drop_of_length-le s h)

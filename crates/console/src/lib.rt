@@ -2,63 +2,45 @@
 #![tactic(auto)]
 
 ghost use Rattle.std.specs.Prelude.{◌≡◌, ◌≤◌, length};
-ghost use Rattle.console.specs.Number.{and_digit, is_digit, number_of};
-ghost use Rattle.console.specs.Input.{Gives, Reads, Within};
+ghost use Rattle.console.specs.Number.{and_digit, number_of};
+ghost use Rattle.console.specs.Input.{Reads, Within};
 
 use std::env::FillError;
 use std::fmt::InlineText;
-use std::fs;
 use std::io::{Error, Print, Read};
 use std::rt::{Env, HostRuntime};
-
-// What a text says.
-#[derive(Clone, Copy)]
-pub enum Number {
-    Is(u32),
-    Not,
-}
-
-fn is_digit(b: u8) -> bool
-    ensures { result ≡ is_digit b }
-{
-    (48 <= b) & (b <= 57)
-}
+use std::{fs, io};
 
 fn and_digit(n: u32, b: u8) -> u32
     requires { 48 ≤ b }
     ensures { result ≡ and_digit n b }
 {
-    let longer = 10 * (n as u64) + ((b - 48) as u64);
-    if longer < 4294967295 {
-        longer as u32
-    } else {
-        4294967295
-    }
+    n.saturating_mul(10).saturating_add(u32::from(b - b'0'))
 }
 
 // A number in decimal; one beyond 32 bits is taken for the largest.
 #[tactic(auto, using(crate::proofs::Reading::none, crate::proofs::Reading::some, crate::proofs::Reading::stops, crate::proofs::Reading::goes_on, crate::proofs::Reading::ends))]
-pub fn read_number(s: &[u8]) -> Number
+pub fn read_number(s: &[u8]) -> Option<u32>
     ensures { result ≡ number_of s.now }
 {
-    if s.len() == 0 {
-        return Number::Not;
+    if s.is_empty() {
+        return None;
     }
-    let mut n: u32 = 0;
+    let mut n = 0;
     for b in s {
-        if !is_digit(*b) {
-            return Number::Not;
+        if !b.is_ascii_digit() {
+            return None;
         }
         n = and_digit(n, *b);
     }
-    Number::Is(n)
+    Some(n)
 }
 
-// How many bytes were read, or that they could not be.
+// What a program could not do, and the system's reason.
 #[derive(Clone, Copy)]
-pub enum Input {
-    Bytes(usize),
-    Failed,
+pub struct Failure<'a> {
+    pub what: &'a [u8],
+    pub reason: Error,
 }
 
 // The error of an argument that no path is as long as.
@@ -75,78 +57,64 @@ fn reason(text: &str) -> &str {
     }
 }
 
-// This failure and the system's reason on standard error.
-fn fail(rt: &HostRuntime, failure: &[u8], error: Error) {
-    let text = InlineText::<256>::of(error);
-    say(rt, failure);
+// A failure on standard error.
+pub fn report(rt: &HostRuntime, failure: Failure<'_>) {
+    let text = InlineText::<256>::of(failure.reason);
+    say(rt, failure.what);
     say(rt, b": ");
     say(rt, reason(text.as_str()).as_bytes());
     say(rt, b"\n");
 }
 
-// One read: how many bytes came, 0 at the input's end.
-fn read_part<R: Read>(rt: &HostRuntime, from: &mut R, part: &mut [u8], failure: &[u8]) -> Input
-    ensures within { Within result (length part.new) }
-    ensures bytes { Gives (R.remaining from.old) (R.remaining from.new) result part.new }
-{
-    match from.read(part) {
-        Ok(got) => Input::Bytes(got),
-        Err(error) => {
-            fail(rt, failure, error);
-            Input::Failed
-        }
-    }
-}
-
-// A file from where it stands to its end, or to the buffer's. A read that fails is no end: it is said on standard error.
-fn read_file<R: Read>(rt: &HostRuntime, from: &mut R, buffer: &mut [u8], failure: &[u8]) -> Input
+// A file from where it stands to its end, or to the buffer's. A read that fails is no end.
+fn read_file<R: Read>(from: &mut R, buffer: &mut [u8]) -> io::Result<usize>
     ensures within { Within result (length buffer.new) }
     ensures bytes { Reads (R.remaining from.old) (R.remaining from.new) result buffer.new }
 {
     let mut n = 0;
     while n < buffer.len() {
-        let Input::Bytes(more) = read_part(rt, from, &mut buffer[n..], failure) else {
-            return Input::Failed;
-        };
+        let more = from.read(&mut buffer[n..])?;
         if more == 0 {
             break;
         }
         n += more;
     }
-    Input::Bytes(n)
+    Ok(n)
 }
 
 // The file of this name.
-fn read_named(rt: &HostRuntime, name: &[u8], buffer: &mut [u8], failure: &[u8]) -> Input
+fn read_named(rt: &HostRuntime, name: &[u8], buffer: &mut [u8]) -> io::Result<usize>
     ensures { Within result (length buffer.new) }
 {
     let Ok(path) = str::from_utf8(name) else {
-        fail(rt, failure, Error::from_raw_os_error(NOT_TEXT));
-        return Input::Failed;
+        return Err(Error::from_raw_os_error(NOT_TEXT));
     };
-    match fs::open(rt, path) {
-        Ok(mut file) => read_file(rt, &mut file, buffer, failure),
-        Err(error) => {
-            fail(rt, failure, error);
-            Input::Failed
-        }
-    }
+    let mut file = fs::open(rt, path)?;
+    read_file(&mut file, buffer)
 }
 
-// The file that argument i names, or standard input where there is no such argument. Where it cannot be read,
-// this failure and the system's reason are said on standard error.
-pub fn read_input(rt: &HostRuntime, i: usize, buffer: &mut [u8], failure: &[u8]) -> Input
+// The file that argument i names, or standard input where there is no such argument.
+fn read_argument(rt: &HostRuntime, i: usize, buffer: &mut [u8]) -> io::Result<usize>
     ensures { Within result (length buffer.new) }
 {
     let mut name = [0u8; 4096];
     match rt.arg(i, &mut name) {
-        Ok(size) => read_named(rt, &name[..size], buffer, failure),
-        Err(FillError::NotPresent) => read_file(rt, &mut rt.stdin(), buffer, failure),
-        Err(FillError::TooLong) => {
-            fail(rt, failure, Error::from_raw_os_error(NAME_TOO_LONG));
-            Input::Failed
-        }
+        Ok(size) => read_named(rt, &name[..size], buffer),
+        Err(FillError::NotPresent) => read_file(&mut rt.stdin(), buffer),
+        Err(FillError::TooLong) => Err(Error::from_raw_os_error(NAME_TOO_LONG)),
     }
+}
+
+// The same; `what` is said where it cannot be read.
+pub fn read_input<'a>(
+    rt: &HostRuntime,
+    i: usize,
+    buffer: &mut [u8],
+    what: &'a [u8],
+) -> Result<usize, Failure<'a>>
+    ensures { Within result (length buffer.new) }
+{
+    read_argument(rt, i, buffer).map_err(|reason| Failure { what, reason })
 }
 
 // Whether there is an argument i.
@@ -158,11 +126,11 @@ pub fn has_argument(rt: &HostRuntime, i: usize) -> bool {
     }
 }
 
-// A text on standard output. Where it cannot be written whole, this failure and the system's reason are said on standard error.
-pub fn print(rt: &HostRuntime, text: &[u8], failure: &[u8]) {
-    if let Err(error) = rt.stdout().write_all(text) {
-        fail(rt, failure, error);
-    }
+// A text on standard output; `what` is said where it cannot be written whole.
+pub fn print<'a>(rt: &HostRuntime, text: &[u8], what: &'a [u8]) -> Result<(), Failure<'a>> {
+    rt.stdout()
+        .write_all(text)
+        .map_err(|reason| Failure { what, reason })
 }
 
 // A sentence on standard error.

@@ -3,16 +3,16 @@ use Prim.Native.Nat.{ℕ, ◌≤◌, ◌<◌}
 use mathlib.Core.Path.{◌≡◌, refl, ap, ◌∙◌}
 use mathlib.Core.Bool.{Bool, true, false, cond}
 use mathlib.Core.List.{List}
+use Rattle.std.specs.Prelude.{Result}
 use borrow.Author.Tests.{lt-ltb, le-ltb}
 use lib.Dec.{eqb}
 use lib.IntN.{ℤ}
 use lib.ListN.{length}
 use Rattle.rules.specs.declared.Record.{Record}
-use Rattle.rules.specs.declared.Wrote.{Wrote}
+use Rattle.rules.specs.declared.Refusal.{Refusal}
 use Rattle.rules.specs.QueryFile.{is_edition, is_wide, record_bytes, write_refusal, put_unless, Written}
-use Rattle.rules.specs.Refusals.{first}
+use Rattle.rules.specs.Refusals.{refusal_in, first}
 use Rattle.answers.specs.Pair.{pair_refusal}
-use Rattle.controller.specs.Copying.{number_of}
 use Rattle.controller.specs.Given.{range_of, write_given_refusal, Writes}
 use Rattle.controller.proofs.Writing.{puts}
 
@@ -22,7 +22,8 @@ module _ (edition : ℕ) (points : List ℤ) (out : List ℕ) (at : ℕ) (r : Re
   unfolding write_given_refusal first put_unless
   few_written h = record { says = rw (lt-ltb (length points) 24 h); leaves = refl }
 
-  pub given_written : {x : Record} {out' : List ℕ} {w : Wrote} {number : ℕ} → x ≡ r → 24 ≤ length points → Written (write_refusal edition out at x) out at (record_bytes edition x) out' w → number ≡ number_of w
+  pub given_written : {x : Record} {out' : List ℕ} {answer : Result (Unit {0}) Refusal} {number : ℕ}
+      → x ≡ r → 24 ≤ length points → Written (write_refusal edition out at x) out at (record_bytes edition x) out' answer → number ≡ refusal_in answer
       → Writes edition points r out at out' number
   unfolding write_given_refusal first
   given_written {number = number} e h p d =

@@ -1,23 +1,19 @@
 -- A writer's answer as a number. Assumes nothing.
-use Prim.Native.Nat.{ℕ, zero, suc}
-use mathlib.Core.Path.{◌≡◌, refl, sym, ap, ◌∙◌}
-use mathlib.Core.List.{List}
-use Rattle.rules.specs.declared.Wrote.{Wrote}
+use Rattle.std.specs.Prelude.{ℕ, zero, suc, ◌≡◌, refl, List, Result}
+use Rattle.std.proofs.Common.{sym, ap, ◌∙◌}
+use Rattle.rules.specs.declared.Refusal.{Refusal}
 use Rattle.rules.specs.declared.Fetched.{Fetched}
 use Rattle.rules.specs.declared.Record.{Record}
-use Rattle.rules.specs.QueryFile.{fetched, record_bytes, write_refusal, wrote_unless, put_unless, Written}
-use Rattle.rules.specs.Refusals.{or_else}
+use Rattle.rules.specs.QueryFile.{fetched, record_bytes, write_refusal, put_unless, Written}
+use Rattle.rules.specs.Refusals.{refusal_in, or_else}
 use Rattle.queries.specs.Writing.{Puts}
-use Rattle.controller.specs.Copying.{number_of, copy_refusal, Copied}
+use Rattle.controller.specs.Copying.{copy_refusal, Copied}
 
-number_wrote : (k : ℕ) → number_of (wrote_unless k) ≡ k
-unfolding wrote_unless
-number_wrote zero = refl
-number_wrote (suc k) = refl
-
-pub puts : {refusal at number : ℕ} {bytes out out' : List ℕ} {w : Wrote} → Written refusal out at bytes out' w → number ≡ number_of w → Puts refusal bytes out at out' number
-puts {refusal} {at} {number} {bytes} {out} {out'} {w} p e =
-    let n : number ≡ refusal = e ∙ ap number_of p.says ∙ number_wrote refusal in
+pub puts : {refusal at number : ℕ} {bytes out out' : List ℕ} {answer : Result (Unit {0}) Refusal}
+    → Written refusal out at bytes out' answer → number ≡ refusal_in answer
+    → Puts refusal bytes out at out' number
+puts {at = at} {bytes = bytes} {out = out} p e =
+    let n = e ∙ p.says in
     record { says = n; leaves = p.leaves ∙ ap (λ (k : ℕ). put_unless k out at bytes) (sym n) }
 
 module _ (file : List ℕ) (n edition : ℕ) (out : List ℕ) (at : ℕ) {f : Fetched} (e : f ≡ fetched file n) where
@@ -29,10 +25,11 @@ module _ (file : List ℕ) (n edition : ℕ) (out : List ℕ) (at : ℕ) {f : Fe
       stays zero g h = absurd (h refl)
       stays (suc k) g h = record { says = ap (λ (m : ℕ). or_else m (write_refusal edition out at (fetched file n).query)) g; leaves = refl }
 
-  pub copied : {out' : List ℕ} {w : Wrote} {number : ℕ} → f.refusal ≡ 0 → Written (write_refusal edition out at f.query) out at (record_bytes edition f.query) out' w → number ≡ number_of w
+  pub copied : {out' : List ℕ} {answer : Result (Unit {0}) Refusal} {number : ℕ}
+      → f.refusal ≡ 0 → Written (write_refusal edition out at f.query) out at (record_bytes edition f.query) out' answer → number ≡ refusal_in answer
       → Copied file n edition out at out' number
   unfolding copy_refusal
-  copied {out'} {w} {number} z p d =
+  copied {number = number} z p d =
       let q : f.query ≡ (fetched file n).query = ap (λ (x : Fetched). x.query) e in
       let r : 0 ≡ (fetched file n).refusal = sym z ∙ ap (λ (x : Fetched). x.refusal) e in
       let s = puts p d in

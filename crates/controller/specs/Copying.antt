@@ -1,16 +1,9 @@
 -- A record of one file written into another buffer, and a trailer of either file: the number that comes back, and every byte.
 use Rattle.std.specs.Prelude.{ℕ, List}
-use Rattle.rules.specs.declared.Wrote.{Wrote}
-use Rattle.rules.specs.declared.Wrote.TheVariants.{Done, Refused}
 use Rattle.rules.specs.QueryFile.{fetched, record_bytes, trailer_bytes, query_form, write_refusal, trailer_refusal, query_trailer_refusal}
 use Rattle.rules.specs.AnswerFile.{answer_form}
 use Rattle.rules.specs.Refusals.{or_else}
 use Rattle.queries.specs.Writing.{Puts}
-
--- a writer's number, 0 where it is done
-abbrev pub number_of : Wrote → ℕ
-number_of Done = 0
-number_of (Refused n) = n
 
 -- fetching's refusals first, then writing's
 unfoldable pub copy_refusal : List ℕ → ℕ → ℕ → List ℕ → ℕ → ℕ

@@ -18,11 +18,9 @@ fn first_24(numbers: &[i32]) -> [i32; 24]
     ensures value { result ≡ take 24 numbers.now }
     ensures each { Each result }
 {
-    let mut p = [0i32; 24];
-    let mut i = 0;
-    while i < 24 {
+    let mut p = [0; 24];
+    for i in 0..24 {
         p[i] = numbers[i];
-        i += 1;
     }
     p
 }

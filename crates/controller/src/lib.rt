@@ -9,12 +9,13 @@ ghost use Rattle.bounds.specs.Reach.{body};
 ghost use Rattle.bounds.specs.Keeping.{Keeps, Replaces};
 ghost use Rattle.bodies.specs.Telling.{Tells, TellsWith};
 ghost use Rattle.reasons.specs.Telling.{TellsWhy};
-ghost use Rattle.controller.specs.Copying.{number_of, Copied, Ended};
+ghost use Rattle.controller.specs.Copying.{Copied, Ended};
 ghost use Rattle.controller.specs.Given.{record_of, range_of, Writes};
 
+use bounds::Body;
 use given::{range_of, record_of};
 use refusals::is_edition;
-use rules::{Terms, Wrote};
+use rules::{Refusal, Terms, number_in};
 
 mod given; // given.rt: the record of a pair that is given in numbers
 mod answer_file; // answer_file.rt: the functions of the answer file
@@ -29,7 +30,7 @@ pub extern "C" fn taperhive_answer(
 ) -> u32
     ensures { One file.now n queue.old queue.new told.old told.new result }
 {
-    answers::answer_one(file, n, queue, told)
+    number_in(answers::answer_one(file, n, queue, told))
 }
 
 // Every record of a query file, in order.
@@ -37,7 +38,7 @@ pub extern "C" fn taperhive_answer(
 pub extern "C" fn taperhive_answers(file: &[u8], queue: &mut [u64], told: &mut [u32]) -> u32
     ensures { Every file.now queue.old queue.new told.old told.new result }
 {
-    answers::answer_all(file, queue, told)
+    number_in(answers::answer_all(file, queue, told))
 }
 
 // How many records a query file has.
@@ -45,7 +46,7 @@ pub extern "C" fn taperhive_answers(file: &[u8], queue: &mut [u64], told: &mut [
 pub extern "C" fn taperhive_count(file: &[u8], told: &mut [u32]) -> u32
     ensures { Counted (file_form file.now) file.now told.old told.new result }
 {
-    answers::count_records(file, told)
+    number_in(answers::count_records(file, told))
 }
 
 // Why record n of a query file is safe at a moment and place, in 1/1,048,576 parts.
@@ -62,16 +63,6 @@ pub extern "C" fn taperhive_why(
     ensures { TellsWhy file.now n (record { t = t; u = u; v = v }) queue.old queue.new told.old told.new result }
 {
     reasons::tell(file, n, t, u, v, queue, told)
-}
-
-// A writer's number, 0 where it is done.
-fn number(answer: Wrote) -> u32
-    ensures { result ≡ number_of answer }
-{
-    match answer {
-        Wrote::Done => 0,
-        Wrote::Refused(n) => n,
-    }
 }
 
 // Record n of a query file, written into another buffer.
@@ -91,7 +82,7 @@ pub extern "C" fn taperhive_copy(
         return refusal;
     }
     let query = f.query;
-    number(queries::write_record(out, at, edition, query))
+    number_in(queries::writing::write_record(out, at, edition, query))
 }
 
 // A record from numbers; the points are 24 of them, four points at the start and four at the end.
@@ -114,12 +105,12 @@ pub extern "C" fn taperhive_write(
     ensures { Writes edition points.now (record_of edition kind flags id dx dy dz tolerance budget cap points.now) out.old at out.new result }
 {
     if points.len() < 24 {
-        return 14;
+        return Refusal::Space.number();
     }
     let pair = record_of(
         edition, kind, flags, id, dx, dy, dz, tolerance, budget, cap, points,
     );
-    number(queries::write_record(out, at, edition, pair))
+    number_in(queries::writing::write_record(out, at, edition, pair))
 }
 
 // The trailer of a query file.
@@ -127,7 +118,7 @@ pub extern "C" fn taperhive_write(
 pub extern "C" fn taperhive_trailer(out: &mut [u8], at: usize, edition: u8, count: u32) -> u32
     ensures { Ended out.old at edition count out.new result }
 {
-    number(queries::write_trailer(out, at, edition, count))
+    number_in(queries::writing::write_trailer(out, at, edition, count))
 }
 
 // Two bodies of triangles, their positions at the start and at the end of the step, in the range of an edition.
@@ -158,7 +149,17 @@ pub extern "C" fn taperhive_bodies(
         budget,
         edition,
     };
-    bodies::answer_bodies(w, m, a0, a1, n, b0, b1, queue, told)
+    let a = Body {
+        count: m,
+        start: a0,
+        end: a1,
+    };
+    let b = Body {
+        count: n,
+        start: b0,
+        end: b1,
+    };
+    number_in(bodies::answer_bodies(w, a, b, queue, told))
 }
 
 // The bounds of a body, six numbers for every 32 triangles.
@@ -172,7 +173,8 @@ pub extern "C" fn taperhive_bounds(
 ) -> u32
     ensures { Keeps edition (body count start.now end.now) bounds.old bounds.new result }
 {
-    bounds::write_bounds(edition, count, start, end, bounds)
+    let m = Body { count, start, end };
+    number_in(bounds::write_bounds(edition, m, bounds))
 }
 
 // Two bodies as `taperhive_bodies` has them, with their bounds: blocks that are too far apart are passed over.
@@ -205,7 +207,17 @@ pub extern "C" fn taperhive_walk(
         budget,
         edition,
     };
-    bodies::with_bounds::answer_with_bounds(w, m, a0, a1, abounds, n, b0, b1, bbounds, queue, told)
+    let a = Body {
+        count: m,
+        start: a0,
+        end: a1,
+    };
+    let b = Body {
+        count: n,
+        start: b0,
+        end: b1,
+    };
+    number_in(bodies::with_bounds::answer_with_bounds(w, a, abounds, b, bbounds, queue, told))
 }
 
 // Triangle n of a body replaced, and the bound of its block worked out again.
@@ -221,7 +233,7 @@ pub extern "C" fn taperhive_replace(
 ) -> u32
     ensures { Replaces edition (body count start.old end.old) bounds.old n corners.now start.new end.new bounds.new result }
 {
-    bounds::replace::replace(edition, count, start, end, bounds, n, corners)
+    number_in(bounds::replace::replace(edition, count, start, end, bounds, n, corners))
 }
 
 // One pair without a file, in the range of an edition; its own refusals are told.
@@ -244,13 +256,13 @@ pub extern "C" fn taperhive_pair(
     ensures { Pair edition points.now (record_of (range_of edition) kind flags id dx dy dz tolerance budget cap points.now) queue.old queue.new told.old told.new result }
 {
     if !is_edition(edition) {
-        return 10;
+        return Refusal::Edition.number();
     }
     if points.len() < 24 {
-        return 14;
+        return Refusal::Space.number();
     }
     if told.len() < 8 {
-        return 14;
+        return Refusal::Space.number();
     }
     let range = range_of(edition);
     let query = record_of(

@@ -1,20 +1,16 @@
 -- One level further down: the half is a box of the grid; and the written descent, by what the box misses and the number of levels left.
 use mathlib.Core.Path.{◌≡◌, refl, sym, ap, ◌∙◌}
 use mathlib.Core.Bool.{Bool, true, false, cond, ◌&&◌}
-use Prim.Native.Nat.{ℕ, zero, suc, ◌+◌, ◌*◌, ◌-◌, ◌^◌, ◌≤◌, ◌<◌}
-use native.Mathlib.Nat.{pow-suc}
-use native.Mathlib.Numerals.{add-one}
+use Prim.Native.Nat.{ℕ, zero, suc, ◌-◌, ◌<◌}
 use native.Mathlib.Omega.{arith}
 use lib.Dec.{eqb}
 use borrow.Author.Tests.{eqb-true}
+use Rattle.std.specs.Prelude.{Option, Some, None}
 use Rattle.rules.specs.declared.Three.{Three}
 use Rattle.rules.specs.declared.Parameter.{Parameter}
 use Rattle.rules.specs.declared.Parameter.TheVariants.{InT, InU, InV}
-use Rattle.rules.specs.declared.Axis.{Axis}
-use Rattle.rules.specs.declared.Side.{Side}
 use Rattle.rules.specs.declared.Stop.{Stop}
 use Rattle.rules.specs.declared.Miss.{Miss}
-use Rattle.rules.specs.declared.Miss.TheVariants.{Nowhere, On}
 use Rattle.rules.specs.declared.Ruling.TheVariants.{Discarded, Refused}
 use Rattle.rules.specs.Search.{Query, full, split, deeper, low_half, high_half}
 use Rattle.rules.specs.Why.{goes_up, holding, missed, half_of, reason_of, name_or, descend}
@@ -25,13 +21,6 @@ use Rattle.queue.specs.Grid.{half_grid as grid-of-half}
 use Rattle.search.specs.Levels.{depth_in}
 use Rattle.search.proofs.Deepening.{split_deepest, deeper_total, deeper_shallow}
 use Rattle.descent.specs.Way.{Halves, Good}
-
--- ---- the index of an upper half
-pub upper_in : (k i : ℕ) → i < 2 ^ k → 2 * i + 1 ≤ 2 ^ (k + 1)
-upper_in k i h = omega (arith, double)
-  where
-    double : 2 ^ (k + 1) ≡ 2 * 2 ^ k
-    double = rw (add-one, pow-suc) (omega arith)
 
 -- ---- a level that is split
 module _ (p : Pair) (s : Stop) (h : Good p s 1) where
@@ -84,19 +73,19 @@ module _ (p : Pair) (s : Stop) (left : ℕ) (some : left ≡ 0 → ⊥) (g : Goo
 
 -- ---- the written descent
 module _ (q : Query) (at : Three) (s : Stop) where
-  pub descend_out : (n : ℕ) (axis : Axis) (side : Side) → missed q s.depths s.index ≡ On axis side → descend n q at s ≡ Discarded (reason_of s axis side)
+  pub descend_out : (n : ℕ) (m : Miss) → missed q s.depths s.index ≡ Some m → descend n q at s ≡ Discarded (reason_of s m.axis m.side)
   unfolding descend
-  descend_out zero axis side e = ap (λ (m : Miss). name_or m s (Refused 0)) e
-  descend_out (suc n) axis side e = ap (λ (m : Miss). name_or m s (descend n q at (half_of q at s))) e
+  descend_out zero m e = ap (λ (m : Option Miss). name_or m s (Refused 0)) e
+  descend_out (suc n) m e = ap (λ (m : Option Miss). name_or m s (descend n q at (half_of q at s))) e
 
-  pub descend_end : (n : ℕ) → n ≡ 0 → missed q s.depths s.index ≡ Nowhere → descend n q at s ≡ Refused 0
+  pub descend_end : (n : ℕ) → n ≡ 0 → missed q s.depths s.index ≡ None → descend n q at s ≡ Refused 0
   unfolding descend
-  descend_end zero z e = ap (λ (m : Miss). name_or m s (Refused 0)) e
+  descend_end zero z e = ap (λ (m : Option Miss). name_or m s (Refused 0)) e
   descend_end (suc n) z e = absurd (omega arith)
 
-  pub descend_on : (n : ℕ) → (n ≡ 0 → ⊥) → missed q s.depths s.index ≡ Nowhere → descend n q at s ≡ descend (n - 1) q at (half_of q at s)
+  pub descend_on : (n : ℕ) → (n ≡ 0 → ⊥) → missed q s.depths s.index ≡ None → descend n q at s ≡ descend (n - 1) q at (half_of q at s)
   unfolding descend
   descend_on zero z e = absurd (z refl)
   descend_on (suc n) z e =
       let one : suc n - 1 ≡ n = omega arith in
-      ap (λ (m : Miss). name_or m s (descend n q at (half_of q at s))) e ∙ sym (ap (λ (j : ℕ). descend j q at (half_of q at s)) one)
+      ap (λ (m : Option Miss). name_or m s (descend n q at (half_of q at s))) e ∙ sym (ap (λ (j : ℕ). descend j q at (half_of q at s)) one)

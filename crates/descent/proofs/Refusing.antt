@@ -50,9 +50,6 @@ module _ (r : Record) (words : ℕ) (at : Three) where
   own_first zero e h = absurd (h refl)
   own_first (suc n) e h = ap (λ (k : ℕ). before k (in_domain r at)) e ∙ ask_is
 
-  pub then_23 : 0 ≡ search_refusal r words → cond (not (in_domain r at)) 23 0 ≡ ask_refusal r words at
-  then_23 e = ap (λ (k : ℕ). before k (in_domain r at)) e ∙ ask_is
-
   why_is : why_refusal r words at ≡ all (search_refusal r words) (in_domain r at) (is_before (search r words) at.t)
   unfolding why_refusal first
   why_is = refl

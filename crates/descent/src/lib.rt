@@ -3,7 +3,7 @@
 
 ghost use Rattle.std.specs.Prelude.{◌≡◌, ◌<◌, ◌^◌, ◌&&◌, leb, ltb, length, replicate};
 ghost use Rattle.rules.specs.Numbers.{parts, last_moment};
-ghost use Rattle.rules.specs.Refusals.{search_refusal};
+ghost use Rattle.rules.specs.Refusals.{refusal_in, search_refusal};
 ghost use Rattle.rules.specs.Why.{in_domain, is_before, in_upper, goes_up, holding, half_of, reason_of, descend, from_whole, ask_refusal, why_refusal, why_search, why_queue_after};
 ghost use Rattle.kernel.specs.Kernel.{asked};
 ghost use Rattle.kernel.specs.Ranges.{Shallow};
@@ -14,8 +14,8 @@ use gap::cell::low;
 use gap::{PARTS, last_moment};
 use kernel::Pair;
 use queue::clear;
-use refusals::{first, search_refusal};
-use rules::{Answer, Axis, Miss, Parameter, Reason, Record, Ruling, Side, Stop, Three};
+use refusals::check_search;
+use rules::{Answer, Miss, Parameter, Reason, Record, Refusal, Ruling, Stop, Three};
 use search::{deepen, search_levels};
 
 // Whether a moment, in parts, is one of the step and not beyond the cap.
@@ -26,66 +26,25 @@ fn in_time(cap: u32, t: u64) -> bool
 }
 
 // Whether a point, in parts, is inside the domain and not beyond the cap. A sum is taken only of numbers that are.
+#[tactic(auto, unfolding(rules::specs::Why::in_domain))]
 fn in_domain(r: Record, at: Three) -> bool
     ensures { result ≡ in_domain r at }
 {
-    if !in_time(r.cap, at.t) {
-        return false;
-    }
-    if PARTS < at.u {
-        return false;
-    }
-    if PARTS < at.v {
-        return false;
-    }
-    if r.kind == 1 {
-        at.u + at.v <= PARTS
-    } else {
-        true
-    }
-}
-
-fn earlier(at: u64, t: u32) -> bool
-    ensures { result ≡ ltb at t }
-{
-    at < t as u64
+    in_time(r.cap, at.t) && at.u <= PARTS && at.v <= PARTS && (r.kind != 1 || at.u + at.v <= PARTS)
 }
 
 // Whether a moment is before the answered one; under CLEAR every moment is.
+#[tactic(auto, unfolding(rules::specs::Why::is_before))]
 fn is_before(a: Answer, at: u64) -> bool
     ensures { result ≡ is_before a at }
 {
     match a {
-        Answer::Met {
-            t,
-            u,
-            v,
-            excess,
-            count,
-        } => earlier(at, t),
-        Answer::Clear(count) => true,
-        Answer::Spent {
-            t,
-            u,
-            v,
-            excess,
-            count,
-        } => earlier(at, t),
-        Answer::Room {
-            t,
-            u,
-            v,
-            excess,
-            count,
-        } => earlier(at, t),
-        Answer::Floor {
-            t,
-            u,
-            v,
-            excess,
-            count,
-        } => earlier(at, t),
-        Answer::Refused(number) => false,
+        Answer::Met { t, .. }
+        | Answer::Spent { t, .. }
+        | Answer::Room { t, .. }
+        | Answer::Floor { t, .. } => at < t as u64,
+        Answer::Clear(_) => true,
+        Answer::Refused(_) => false,
     }
 }
 
@@ -97,6 +56,7 @@ fn is_upper(k: u64, i: u64, at: u64) -> bool
     low(20, k + 1, 2 * i + 1) <= at
 }
 
+#[tactic(auto, unfolding(rules::specs::Why::goes_up))]
 fn goes_up(split: Parameter, k: Three, b: Three, at: Three) -> bool
     requires { Halves split k b }
     ensures { result ≡ goes_up split k b at }
@@ -122,27 +82,24 @@ fn half(p: Pair, at: Three, s: Stop) -> Stop
     requires { Good p s 1 }
     ensures { result ≡ half_of (asked p) at s }
 {
-    let k = s.depths;
-    let i = s.index;
-    let split = gap::rare_split(p, k);
-    let depths = deepen(split, k);
-    let index = holding(split, k, i, at);
+    let split = gap::rare_split(p, s.depths);
+    let depths = deepen(split, s.depths);
+    let index = holding(split, s.depths, s.index, at);
     Stop { depths, index }
 }
 
-fn reason(s: Stop, axis: Axis, side: Side) -> Reason
+fn reason(s: Stop, miss: Miss) -> Reason
     requires { Shallow 20 s.depths }
-    ensures { result ≡ reason_of s axis side }
+    ensures { result ≡ reason_of s miss.axis miss.side }
 {
     let k = s.depths;
-    let i = s.index;
     let level = k.t + k.u + k.v;
     Reason {
         level,
         depths: k,
-        index: i,
-        axis,
-        side,
+        index: s.index,
+        axis: miss.axis,
+        side: miss.side,
     }
 }
 
@@ -151,11 +108,9 @@ fn go_down(p: Pair, at: Three, s: Stop, left: u64) -> Ruling
     requires { Good p s left }
     ensures { result ≡ descend left (asked p) at s }
 {
-    let k = s.depths;
-    let i = s.index;
-    match gap::missed(p, k, i) {
-        Miss::On(axis, side) => Ruling::Discarded(reason(s, axis, side)),
-        Miss::Nowhere => {
+    match gap::missed(p, s.depths, s.index) {
+        Some(miss) => Ruling::Discarded(reason(s, miss)),
+        None => {
             if left == 0 {
                 Ruling::Refused(0)
             } else {
@@ -177,15 +132,16 @@ fn from_whole(r: Record, words: usize, at: Three) -> Ruling
     go_down(p, at, whole, 3 * p.deepest)
 }
 
-// What refuses the question before anything is searched, the search's own and then 23; 0: nothing.
-pub fn ask_refusal(r: Record, words: usize, at: Three) -> u32
-    ensures { result ≡ ask_refusal r words at }
+// Whether the question is refused before anything is searched: the search's own and then 23.
+pub fn check_ask(r: Record, words: usize, at: Three) -> Result<(), Refusal>
+    ensures { refusal_in result ≡ ask_refusal r words at }
 {
-    let own = search_refusal(r, words);
-    if own != 0 {
-        return own;
+    check_search(r, words)?;
+    if in_domain(r, at) {
+        Ok(())
+    } else {
+        Err(Refusal::Domain)
     }
-    first(!in_domain(r, at), 23, 0)
 }
 
 // A question that is not refused so: 24, or the box; the queue is zero after either.
@@ -197,7 +153,7 @@ pub fn why_accepted(r: Record, at: Three, queue: &mut [u64]) -> Ruling
     clear(queue);
     let a = search_levels(r, queue);
     if !is_before(a, at.t) {
-        return Ruling::Refused(24);
+        return Ruling::Refused(Refusal::Later.number());
     }
     from_whole(r, queue.len(), at)
 }
@@ -207,9 +163,8 @@ pub fn why(r: Record, at: Three, queue: &mut [u64]) -> Ruling
     ensures value { result ≡ why_search r (length queue.old) at }
     ensures queue_after { queue.new ≡ why_queue_after (why_refusal r (length queue.old) at) queue.old }
 {
-    let number = ask_refusal(r, queue.len(), at);
-    if number != 0 {
-        return Ruling::Refused(number);
+    if let Err(refusal) = check_ask(r, queue.len(), at) {
+        return Ruling::Refused(refusal.number());
     }
     why_accepted(r, at, queue)
 }

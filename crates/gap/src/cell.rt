@@ -38,12 +38,12 @@ pub fn cell_of(deepest: u64, k: Three, i: Three) -> Cell
     let v0 = low(deepest, k.v, i.v);
     let v1 = low(deepest, k.v, i.v + 1);
     Cell {
-        parts: parts,
-        t0: t0,
-        t1: t1,
-        u0: u0,
-        u1: u1,
-        v0: v0,
-        v1: v1,
+        parts,
+        t0,
+        t1,
+        u0,
+        u1,
+        v0,
+        v1,
     }
 }

@@ -11,11 +11,9 @@ use kernel::Kernel;
 fn term(s: i64) -> Span
     ensures { result ≡ span_of (pos 0) s }
 {
-    let m = whole::least(0, s);
-    let g = whole::greatest(0, s);
     Span {
-        least: m,
-        greatest: g,
+        least: i64::min(0, s),
+        greatest: i64::max(0, s),
     }
 }
 

@@ -17,7 +17,7 @@ ghost use Rattle.gap.specs.Prepared.{Prepared};
 use cell::{cell_of, low};
 use kernel::Pair;
 use measure::{excess, meets_whole, thin};
-use miss::{miss_on, or_next};
+use miss::miss_on;
 use points::{Four, kernel_at, kernel_of};
 use refusals::depth_limit;
 use rules::{Axis, Corner, Miss, Parameter, Record, Three};
@@ -51,19 +51,13 @@ pub fn survives_whole(r: Record, words: usize) -> bool
     let points = r.points;
     let face = r.kind == 1;
     let flagged = r.flags % 2 == 1;
-    if meets_whole(kernel_at(points, 2, false, face), r.dz as u64) {
-        if meets_whole(kernel_at(points, 0, false, face), r.dx as u64) {
-            meets_whole(kernel_at(points, 1, flagged, face), r.dy as u64)
-        } else {
-            false
-        }
-    } else {
-        false
-    }
+    meets_whole(kernel_at(points, 2, false, face), r.dz as u64)
+        && meets_whole(kernel_at(points, 0, false, face), r.dx as u64)
+        && meets_whole(kernel_at(points, 1, flagged, face), r.dy as u64)
 }
 
-// The first axis, x before y before z, and the side on which all of the box is beyond the separation; nowhere where it survives.
-pub fn missed(p: Pair, k: Three, i: Three) -> Miss
+// The first axis, x before y before z, and the side on which all of the box is beyond the separation; none where it survives.
+pub fn missed(p: Pair, k: Three, i: Three) -> Option<Miss>
     requires { Ranged p × (Shallow p.deepest k × InGrid k i) }
     ensures { result ≡ missed (asked p) k i }
 {
@@ -71,7 +65,7 @@ pub fn missed(p: Pair, k: Three, i: Three) -> Miss
     let x = miss_on(p.x, w, p.dx, Axis::X);
     let y = miss_on(p.y, w, p.dy, Axis::Y);
     let z = miss_on(p.z, w, p.dz, Axis::Z);
-    or_next(x, or_next(y, z))
+    x.or(y.or(z))
 }
 
 // Whether a half is not outside the face: for vertex-face its low u plus low v is at most 1. The cap is asked by who halves, on the word.
@@ -92,19 +86,19 @@ pub fn corner(p: Pair, k: Three, i: Three) -> Corner
     ensures { result ≡ corner (asked p) k i }
 {
     let w = cell_of(p.deepest, k, i);
-    let e = excess(p, w);
     let t = low(20, k.t, i.t) as u32;
     let u = low(20, k.u, i.u) as u32;
     let v = low(20, k.v, i.v) as u32;
     Corner {
-        t: t,
-        u: u,
-        v: v,
-        excess: e,
+        t,
+        u,
+        v,
+        excess: excess(p, w),
     }
 }
 
 // Whether the first survivor of a level is close enough: its excess e is 0, or its width within the tolerance.
+#[tactic(auto, unfolding(rules::specs::Search::near))]
 pub fn near(p: Pair, k: Three, i: Three, e: u32) -> bool
     requires { (Ranged p × (Shallow p.deepest k × InGrid k i)) × (e ≡ excess (asked p) k i) }
     ensures { result ≡ near (asked p) k i }
@@ -164,17 +158,17 @@ pub fn prepare(r: Record, words: usize) -> Pair
     let deepest = depth_limit(r.edition);
     let last = last_moment(r.cap);
     Pair {
-        x: x,
-        y: y,
-        z: z,
-        dx: dx,
-        dy: dy,
-        dz: dz,
-        face: face,
-        tolerance: tolerance,
+        x,
+        y,
+        z,
+        dx,
+        dy,
+        dz,
+        face,
+        tolerance,
         budget: r.budget,
         room: words / 2,
-        deepest: deepest,
-        last: last,
+        deepest,
+        last,
     }
 }

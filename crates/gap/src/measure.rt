@@ -11,7 +11,6 @@ use super::cell::Cell;
 use super::cube::over_cube;
 use super::span::{Span, at_moment, over_corners, value};
 use kernel::{Kernel, Pair};
-use whole::{larger, size};
 
 // A unit of F times parts·parts.
 fn unit_of(w: Cell) -> u64
@@ -51,9 +50,9 @@ fn beyond(k: Kernel, w: Cell, d: u64) -> u64
     requires { Small w.parts k × (InParts w × (d ≤ 65536)) }
     ensures { result ≡ beyond k w d }
 {
-    let n = size(value(at_moment(k, w.parts, w.t0), w.parts, w.u0, w.v0));
+    let n = value(at_moment(k, w.parts, w.t0), w.parts, w.u0, w.v0).unsigned_abs();
     let limit = d * unit_of(w);
-    if n <= limit { 0 } else { n - limit }
+    n.saturating_sub(limit)
 }
 
 // The excess at the low corner, in units, rounded up.
@@ -64,7 +63,7 @@ pub fn excess(p: Pair, w: Cell) -> u32
     let x = beyond(p.x, w, p.dx);
     let y = beyond(p.y, w, p.dy);
     let z = beyond(p.z, w, p.dz);
-    let n = larger(x, larger(y, z));
+    let n = x.max(y.max(z));
     let unit = unit_of(w);
     ((n + (unit - 1)) >> (2 * p.deepest)) as u32
 }
@@ -83,13 +82,5 @@ pub fn thin(p: Pair, w: Cell) -> bool
     requires { Over p w }
     ensures { result ≡ is_thin p w }
 {
-    if narrow(p.z, w, p.tolerance) {
-        if narrow(p.x, w, p.tolerance) {
-            narrow(p.y, w, p.tolerance)
-        } else {
-            false
-        }
-    } else {
-        false
-    }
+    narrow(p.z, w, p.tolerance) && narrow(p.x, w, p.tolerance) && narrow(p.y, w, p.tolerance)
 }

@@ -19,15 +19,11 @@ fn four_at(points: [i32; 24], at: usize) -> Four
     requires { at ≤ 14 }
     ensures { result ≡ four_of points at }
 {
-    let p0 = points[at];
-    let p1 = points[at + 3];
-    let p2 = points[at + 6];
-    let p3 = points[at + 9];
     Four {
-        p0: p0,
-        p1: p1,
-        p2: p2,
-        p3: p3,
+        p0: points[at],
+        p1: points[at + 3],
+        p2: points[at + 6],
+        p3: points[at + 9],
     }
 }
 
@@ -40,12 +36,7 @@ fn sided(turned: bool, face: bool, f: Four) -> Four
     let p1 = turn(turned & face, f.p1);
     let p2 = turn(turned, f.p2);
     let p3 = turn(turned, f.p3);
-    Four {
-        p0: p0,
-        p1: p1,
-        p2: p2,
-        p3: p3,
-    }
+    Four { p0, p1, p2, p3 }
 }
 
 // A, B, C at the start or at the end.
@@ -56,12 +47,12 @@ fn end(face: bool, f: Four) -> Moment
         let a = minus(f.p0, f.p1);
         let b = minus(f.p1, f.p2);
         let c = minus(f.p1, f.p3);
-        Moment { a: a, b: b, c: c }
+        Moment { a, b, c }
     } else {
         let a = minus(f.p0, f.p2);
         let b = minus(f.p1, f.p0);
         let c = minus(f.p2, f.p3);
-        Moment { a: a, b: b, c: c }
+        Moment { a, b, c }
     }
 }
 

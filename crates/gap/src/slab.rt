@@ -105,13 +105,5 @@ pub fn survives_in(p: Pair, k: Three, s: Slab, i: Three) -> bool
     requires { Ranged p × (Shallow p.deepest k × (InGrid k i × (s ≡ slab_of p k i.t))) }
     ensures { result ≡ survives (asked p) k i }
 {
-    if meets_strip(s.z, i.u, i.v) {
-        if meets_strip(s.x, i.u, i.v) {
-            meets_strip(s.y, i.u, i.v)
-        } else {
-            false
-        }
-    } else {
-        false
-    }
+    meets_strip(s.z, i.u, i.v) && meets_strip(s.x, i.u, i.v) && meets_strip(s.y, i.u, i.v)
 }

@@ -40,7 +40,7 @@ pub fn at_moment(k: Kernel, parts: u64, t: u64) -> Moment
     let a = blend(q, s, k.a0, k.a1);
     let b = blend(q, s, k.b0, k.b1);
     let c = blend(q, s, k.c0, k.c1);
-    Moment { a: a, b: b, c: c }
+    Moment { a, b, c }
 }
 
 // s times the numbers from lo to hi.
@@ -50,11 +50,9 @@ fn reach(lo: u64, hi: u64, s: i64) -> Span
 {
     let x = lo as i64 * s;
     let y = hi as i64 * s;
-    let m = whole::least(x, y);
-    let g = whole::greatest(x, y);
     Span {
-        least: m,
-        greatest: g,
+        least: x.min(y),
+        greatest: x.max(y),
     }
 }
 
@@ -63,11 +61,9 @@ pub fn sum(x: i64, s: Span, t: Span) -> Span
     requires { Within term_most x × (SmallSpan term_most s × SmallSpan term_most t) }
     ensures { result ≡ summed x s t }
 {
-    let m = x + s.least + t.least;
-    let g = x + s.greatest + t.greatest;
     Span {
-        least: m,
-        greatest: g,
+        least: x + s.least + t.least,
+        greatest: x + s.greatest + t.greatest,
     }
 }
 
@@ -85,11 +81,9 @@ pub fn over_face(m: Moment, w: Cell) -> Span
 pub fn join(s: Span, t: Span) -> Span
     ensures { result ≡ joined s t }
 {
-    let m = whole::least(s.least, t.least);
-    let g = whole::greatest(s.greatest, t.greatest);
     Span {
-        least: m,
-        greatest: g,
+        least: s.least.min(t.least),
+        greatest: s.greatest.max(t.greatest),
     }
 }
 

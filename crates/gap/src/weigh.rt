@@ -10,7 +10,6 @@ ghost use Rattle.gap.specs.Spread.{Numbers, change_of, step_of, way_of, StepFits
 use super::span::Moment;
 use kernel::{Kernel, Pair};
 use rules::Parameter;
-use whole::{larger, size};
 
 // How A, B, C of an axis change from start to end.
 fn change(k: Kernel) -> Moment
@@ -20,7 +19,7 @@ fn change(k: Kernel) -> Moment
     let a = k.a1 - k.a0;
     let b = k.b1 - k.b0;
     let c = k.c1 - k.c0;
-    Moment { a: a, b: b, c: c }
+    Moment { a, b, c }
 }
 
 // How F changes at u, v, each 0 or 1.
@@ -36,7 +35,7 @@ fn largest(x: i64, y: i64, z: i64) -> u64
     requires { Within spread_most x × (Within spread_most y × Within spread_most z) }
     ensures { result ≡ max (nat_abs x) (max (nat_abs y) (nat_abs z)) }
 {
-    larger(size(x), larger(size(y), size(z)))
+    x.unsigned_abs().max(y.unsigned_abs().max(z.unsigned_abs()))
 }
 
 // The same of the three axes' steps: one of the four ways.
@@ -57,9 +56,9 @@ pub fn spread_t(p: Pair) -> u64
     let x = change(p.x);
     let y = change(p.y);
     let z = change(p.z);
-    let low = larger(way(0, 0, x, y, z), way(0, 1, x, y, z));
-    let high = larger(way(1, 0, x, y, z), way(1, 1, x, y, z));
-    larger(low, high)
+    let low = way(0, 0, x, y, z).max(way(0, 1, x, y, z));
+    let high = way(1, 0, x, y, z).max(way(1, 1, x, y, z));
+    low.max(high)
 }
 
 // Along u the change of F is B, and along v it is C, at the start or at the end.
@@ -72,7 +71,7 @@ pub fn spread_u(p: Pair) -> u64
     let z = p.z;
     let start = largest(x.b0, y.b0, z.b0);
     let end = largest(x.b1, y.b1, z.b1);
-    larger(start, end)
+    start.max(end)
 }
 
 pub fn spread_v(p: Pair) -> u64
@@ -84,7 +83,7 @@ pub fn spread_v(p: Pair) -> u64
     let z = p.z;
     let start = largest(x.c0, y.c0, z.c0);
     let end = largest(x.c1, y.c1, z.c1);
-    larger(start, end)
+    start.max(end)
 }
 
 // A spread at a depth, and one more; 0 at the depth limit, which takes no part.
@@ -100,6 +99,7 @@ pub fn weight(deepest: u64, spread: u64, k: u64) -> u64
 }
 
 // The parameter of the largest weight; ties go to t, then u.
+#[tactic(auto, unfolding(rules::specs::Search::winner))]
 pub fn winner(t: u64, u: u64, v: u64) -> Parameter
     ensures { result ≡ winner t u v }
 {
@@ -109,11 +109,9 @@ pub fn winner(t: u64, u: u64, v: u64) -> Parameter
         } else {
             Parameter::InV
         }
+    } else if v <= u {
+        Parameter::InU
     } else {
-        if v <= u {
-            Parameter::InU
-        } else {
-            Parameter::InV
-        }
+        Parameter::InV
     }
 }

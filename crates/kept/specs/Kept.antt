@@ -1,7 +1,7 @@
 -- What `taperhive_answer`, `taperhive_answers`, `taperhive_pair`, `taperhive_bodies` and `taperhive_walk` tell and what `sweep` prints keeps the promises
 -- (promise/specs), by their own contracts alone: so demand 3 is a theorem of what is shipped. That of `taperhive_log` is `log_kept` in Log.antt, that of
 -- `taperhive_why` `told_kept` in reasons/specs/Laws.antt.
-use Rattle.std.specs.Prelude.{ℕ, zero, suc, ◌+◌, ◌≡◌, refl, List, ℤ, length, take, drop}
+use Rattle.std.specs.Prelude.{ℕ, zero, suc, ◌+◌, ◌≡◌, refl, List, Some, ℤ, length, take, drop}
 use Rattle.std.proofs.Common.{ap, ◌∙◌}
 use Rattle.rules.specs.declared.Record.{Record}
 use Rattle.rules.specs.declared.Terms.{Terms}
@@ -13,7 +13,6 @@ use Rattle.answers.specs.Eight.{eight}
 use Rattle.answers.specs.Walk.{One, Every, tells_by, tells_from}
 use Rattle.answers.specs.Pair.{Pair}
 use Rattle.bodies.specs.Telling.{Tells, TellsWith, body_told}
-use Rattle.text.specs.declared.Written.TheVariants.{Text}
 use Rattle.text.specs.Text.{rows, file_text}
 use Rattle.page.specs.Page.{sweep_refusal, sweep_told, page_unless, sweep_text, Paged}
 use Rattle.page.specs.Laws.{text_put}
@@ -67,7 +66,7 @@ unfolding put_unless
 walk_kept w a of_a b of_b queue queue' out out' h = (h.told, demand_bodies w a b (length queue))
 
 -- `page::write_page`, where it writes a text and the file is not refused: the lines of answers that each keep demand 3
-pub page_kept : (s out out' : List ℕ) (n : ℕ) → Paged s out out' (Text n) → sweep_refusal s ≡ 0
+pub page_kept : (s out out' : List ℕ) (n : ℕ) → Paged s out out' (Some n) → sweep_refusal s ≡ 0
     → let text : List ℕ = file_text (rows (record_count s) (sweep_told s)) in
     (out' ≡ put out 0 text) × ((n ≡ length text) × EachKept (edition_of s) s 4096 (record_count s) (place_of s 0) (sweep_told s))
 unfolding sweep_text page_unless

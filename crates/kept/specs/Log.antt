@@ -16,11 +16,10 @@ use native.Mathlib.Omega.{arith}
 use Rattle.std.proofs.Math.ListN.{get_or}
 use Rattle.rules.specs.declared.Record.{Record}
 use Rattle.rules.specs.declared.Told.{Told}
-use Rattle.rules.specs.declared.Opened.TheVariants.{Records}
 use Rattle.rules.specs.Answers.{told}
 use Rattle.rules.specs.Refusals.{Case, first}
 use Rattle.rules.specs.Search.{search}
-use Rattle.rules.specs.QueryFile.{joined, read_from, form_bytes, word, record_size, record_at, record_by, edition_of, file_form, record_count, place_in, place_of, open_cases, open_refusal, opened, trailer_bytes, put, put_unless}
+use Rattle.rules.specs.QueryFile.{joined, read_from, form_bytes, word, records, record_size, record_at, record_by, edition_of, file_form, record_count, place_in, place_of, open_cases, open_refusal, opened, trailer_bytes, put, put_unless}
 use Rattle.rules.specs.AnswerFile.{Entry, entry_at, entry_bytes, answer_form, answer_bytes, word_cases, word_refusal, same_ids, matches, match_refusal}
 use Rattle.refusals.specs.Cases.{first_then}
 use Rattle.little.specs.Word.{Bytes, word_lt}
@@ -83,11 +82,11 @@ module _ (s : List ℕ) (b : Bytes s) (words : ℕ) (e : open_refusal (file_form
       let rs = read_from (record_at (edition_of s)) (record_size (edition_of s)) s (place_of s 0) (record_count s) in
       λ i. sym (joined_map entry_bytes (answers_to words) rs) i ++ trailer_bytes answer_form (sym count i)
 
-  pub own_opens : opened answer_form (log_bytes s words) ≡ Records 1 0 (record_count s)
-  own_opens = ap (opened answer_form) own_file ∙ file_opens [] (entries_of s words) own_held own_few ∙ ap (Records 1 0) count
+  pub own_opens : opened answer_form (log_bytes s words) ≡ records 1 0 (record_count s)
+  own_opens = ap (opened answer_form) own_file ∙ file_opens [] (entries_of s words) own_held own_few ∙ ap (records 1 0) count
 
   holds : Holds answer_form (log_bytes s words) 1 0 (record_count s)
-  holds = opened_records answer_form (log_bytes s words) 1 0 (record_count s) own_opens
+  holds = opened_records answer_form (log_bytes s words) (record { edition = 1; first = 0; count = record_count s }) own_opens
 
   pub own_reads : read_from entry_at 32 (log_bytes s words) 0 (record_count s) ≡ entries_of s words
   own_reads = (λ i. read_from entry_at 32 (own_file i) 0 (sym count i)) ∙ file_read [] (entries_of s words) own_held

@@ -46,7 +46,7 @@ module _ (s : List ℕ) (b : Bytes s) (words : ℕ) (e : open_refusal (file_form
 
   holds : Holds answer_form log 1 0 (record_count s)
   unfolding log
-  holds = opened_records answer_form (log_bytes s words) 1 0 (record_count s) (own_opens s b words e)
+  holds = opened_records answer_form (log_bytes s words) (record { edition = 1; first = 0; count = record_count s }) (own_opens s b words e)
 
   start : place_in answer_form log 0 ≡ 0
   start = omega (arith, holds.starts)

@@ -7,6 +7,7 @@ use native.Mathlib.Omega.{arith}
 use borrow.Author.Tests.{le-leb, lt-leb}
 use lib.Dec.{leb}
 use lib.ListN.{length, drop}
+use Rattle.std.specs.Prelude.{Option, None}
 use Rattle.rules.specs.declared.Record.{Record}
 use Rattle.rules.specs.declared.Told.{Told}
 use Rattle.rules.specs.Answers.{told}
@@ -16,8 +17,6 @@ use Rattle.queries.specs.Layout.{length_read}
 use Rattle.answers.specs.Eight.{eight}
 use Rattle.answers.specs.Walk.{tells_by, tells_from}
 use Rattle.text.specs.declared.Row.{Row}
-use Rattle.text.specs.declared.Written.{Written}
-use Rattle.text.specs.declared.Written.TheVariants.{Nothing}
 use Rattle.text.specs.Text.{row_of, rows, file_text, refused_text}
 use Rattle.text.specs.Writers.{written_if, buffer_if, Printed, room_for, room_for_refusal}
 use Rattle.page.specs.Page.{sweep_refusal, sweep_told, page_unless, sweep_text}
@@ -66,12 +65,12 @@ module _ (s : List ℕ) where
   file_text_lem h e = sym (page_of (short s h ∙ e))
 
 -- ---- what the writers leave
-pub printed_as : {room room' : Bool} {text text' out out' : List ℕ} {w : Written} → room ≡ room' → text ≡ text' → Printed room text out out' w → Printed room' text' out out' w
+pub printed_as : {room room' : Bool} {text text' out out' : List ℕ} {w : Option ℕ} → room ≡ room' → text ≡ text' → Printed room text out out' w → Printed room' text' out out' w
 printed_as {room} {room'} {text} {text'} {out} {out'} {w} e f p =
     record { said = p.said ∙ (λ i. written_if (e i) (f i)); bytes = p.bytes ∙ (λ i. buffer_if (e i) (f i) out) }
 
 -- room for so many bytes
-pub no_room : (most : ℕ) (out text : List ℕ) → length out < most → Printed (leb most (length out)) text out out Nothing
+pub no_room : (most : ℕ) (out text : List ℕ) → length out < most → Printed (leb most (length out)) text out out None
 unfolding written_if buffer_if
 no_room most out text h = rw (lt-leb most (length out) h) (record { said = refl; bytes = refl })
 

@@ -1,9 +1,8 @@
 -- Document 01, the end of "Berth examples": what `sweep` prints of an input.
-use Rattle.std.specs.Prelude.{ℕ, zero, suc, Bool, List, ◌∷◌, leb, ltb, length}
+use Rattle.std.specs.Prelude.{ℕ, zero, suc, Bool, List, ◌∷◌, leb, ltb, Option, length}
 use Rattle.rules.specs.Refusals.{first}
 use Rattle.rules.specs.QueryFile.{edition_of, file_form, open_cases, record_count, place_of}
 use Rattle.answers.specs.Walk.{tells_from}
-use Rattle.text.specs.declared.Written.{Written}
 use Rattle.text.specs.Text.{rows, file_text, refused_text}
 use Rattle.text.specs.Writers.{Printed}
 
@@ -29,5 +28,5 @@ abbrev pub room_for_page : List ℕ → Bool
 room_for_page buffer = leb 45_280 (length buffer)
 
 -- the text from the first place on, and no other byte changed; or nothing where there is no room
-abbrev pub Paged : List ℕ → List ℕ → List ℕ → Written → Type 0
+abbrev pub Paged : List ℕ → List ℕ → List ℕ → Option ℕ → Type 0
 Paged file out out' answer = Printed (room_for_page out) (sweep_text file) out out' answer

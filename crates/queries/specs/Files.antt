@@ -15,9 +15,9 @@ use Rattle.std.proofs.Math.ListN.{length, get_or, take, drop, length-append, dro
 use Rattle.std.proofs.Math.Seq.{get_or-append-add, take_at, drop_at, drop-append-add, drop-append_seam}
 use Rattle.rules.specs.declared.Record.{Record}
 use Rattle.rules.specs.declared.Form.{Form}
-use Rattle.rules.specs.declared.Opened.TheVariants.{Records}
+use Rattle.rules.specs.declared.Records.{Records}
 use Rattle.rules.specs.Refusals.{first, record_refusal}
-use Rattle.rules.specs.QueryFile.{word, word_bytes, stands, is_edition, record_bytes, query_form, edition_for, edition_of, file_form, edition_bytes, trailer_bytes, joined, read_from, form_bytes, file_bytes, open_refusal, open_unless, opened, no_record, fetch_unless, fetched, put}
+use Rattle.rules.specs.QueryFile.{word, word_bytes, stands, is_edition, record_bytes, query_form, edition_for, edition_of, file_form, edition_bytes, trailer_bytes, joined, read_from, form_bytes, file_bytes, open_refusal, open_unless, records, opened, no_record, fetch_unless, fetched, put}
 use Rattle.little.specs.Word.{length_word, word_at}
 use Rattle.little.specs.Stands.{stands_there}
 use Rattle.queries.specs.Sizes.{few_size}
@@ -27,7 +27,7 @@ use Rattle.queries.specs.RoundTrip.{HeldIn, layout}
 
 -- ---- a trailer
 open_good : (form : Form) (s : List ℕ) (t n : ℕ) → t + 16 ≡ length s → stands s t form.mark ≡ true → stands s (t + 4) (edition_bytes form) ≡ true
-    → word s (t + 8) ≡ form.size * n → word s (t + 12) ≡ n → n ≤ 4096 → form.size * n ≤ t → opened form s ≡ Records form.edition (t - form.size * n) n
+    → word s (t + 8) ≡ form.size * n → word s (t + 12) ≡ n → n ≤ 4096 → form.size * n ≤ t → opened form s ≡ records form.edition (t - form.size * n) n
 unfolding opened open_unless open_refusal first
 open_good form s t n long mark edition w8 w12 few room =
     let l : length s - 16 ≡ t = omega arith in
@@ -68,7 +68,7 @@ module _ (form : Form) (n : ℕ) (four_long : length form.mark ≡ 4) where
   starts_with = simp append_assoc
 
   pub trailer_opens : (before : List ℕ) → n ≤ 4096 → form.size * n < 4294967296 → form.size * n ≤ length before
-      → opened form (before ++ trailer_bytes form n) ≡ Records form.edition (length before - form.size * n) n
+      → opened form (before ++ trailer_bytes form n) ≡ records form.edition (length before - form.size * n) n
   trailer_opens before few small room =
       let t = length before in
       let tail = trailer_bytes form n in
@@ -88,14 +88,14 @@ module _ {form : Form} {R : Type 0} (w : Layout form R) where
   length_front free rs all = omega (arith, length-append free (joined w.bytes rs), length_joined w rs all)
 
   module _ (free : List ℕ) (rs : List R) (all : All w.Held rs) where
-    pub formed_opens : length rs ≤ 4096 → opened form (form_bytes form w.bytes free rs) ≡ Records form.edition (length free) (length rs)
+    pub formed_opens : length rs ≤ 4096 → opened form (form_bytes form w.bytes free rs) ≡ records form.edition (length free) (length rs)
     unfolding form_bytes
     formed_opens few =
         let before = free ++ joined w.bytes rs in
         let l = length_front free rs all in
         let e : length before - form.size * length rs ≡ length free = omega arith in
         trailer_opens form (length rs) w.four_long before few (few_size form.size (length rs) w.small few) (omega arith)
-        ∙ ap (λ (p : ℕ). Records form.edition p (length rs)) e
+        ∙ ap (λ (p : ℕ). records form.edition p (length rs)) e
 
     pub formed_read : read_from w.read form.size (form_bytes form w.bytes free rs) (length free) (length rs) ≡ rs
     unfolding form_bytes
@@ -114,10 +114,13 @@ module _ {form : Form} {R : Type 0} (w : Layout form R) where
   pub formed_once : (free free' : List ℕ) (rs rs' : List R) → All w.Held rs → All w.Held rs' → length rs ≤ 4096 → length rs' ≤ 4096
       → form_bytes form w.bytes free rs ≡ form_bytes form w.bytes free' rs' → (free ≡ free') × (rs ≡ rs')
   formed_once free free' rs rs' all all' few few' e =
-      let o : Records form.edition (length free) (length rs) ≡ Records form.edition (length free') (length rs') =
+      let o : records form.edition (length free) (length rs) ≡ records form.edition (length free') (length rs') =
       sym (formed_opens free rs all few) ∙ ap (opened form) e ∙ formed_opens free' rs' all' few' in
-      let p : length free ≡ length free' = cc in
-      let n : length rs ≡ length rs' = cc in (
+      let same : ◌≡◌ {A = Records}
+      (record { edition = form.edition; first = length free; count = length rs })
+      (record { edition = form.edition; first = length free'; count = length rs' }) = cc in
+      let p : length free ≡ length free' = ap (λ (r : Records). r.first) same in
+      let n : length rs ≡ length rs' = ap (λ (r : Records). r.count) same in (
         sym (formed_free free rs all) ∙ (λ i. take (p i) (e i)) ∙ formed_free free' rs' all',
         sym (formed_read free rs all) ∙ (λ i. read_from w.read form.size (e i) (p i) (n i)) ∙ formed_read free' rs' all',
       )
@@ -160,11 +163,11 @@ module _ (edition : ℕ) (free : List ℕ) (rs : List Record) (is : is_edition e
       let there : get_or (before ++ tail) (length before + 4) 0 ≡ edition = get_or-append-add before tail 4 0 in
       ap (λ (n : ℕ). edition_for (get_or (before ++ tail) (n + 4) 0)) t ∙ ap edition_for there ∙ named edition is
 
-  pub file_opens : opened (file_form (file_bytes edition free rs)) (file_bytes edition free rs) ≡ Records edition (length free) (length rs)
+  pub file_opens : opened (file_form (file_bytes edition free rs)) (file_bytes edition free rs) ≡ records edition (length free) (length rs)
   file_opens = ap (λ (n : ℕ). opened (query_form n) (file_bytes edition free rs)) file_edition ∙ formed_opens (layout edition) free rs all few
 
   pub file_holds : Holds (file_form (file_bytes edition free rs)) (file_bytes edition free rs) edition (length free) (length rs)
-  file_holds = opened_records (file_form (file_bytes edition free rs)) (file_bytes edition free rs) edition (length free) (length rs) file_opens
+  file_holds = opened_records (file_form (file_bytes edition free rs)) (file_bytes edition free rs) _ file_opens
 
   pub file_fetch : (k : ℕ) → k < length rs → fetched (file_bytes edition free rs) k ≡ record { refusal = record_refusal (get_or rs k no_record); query = get_or rs k no_record }
   unfolding fetched fetch_unless

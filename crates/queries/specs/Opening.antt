@@ -8,13 +8,13 @@
 --     reach_refused, _index, _good      the refusal of fetching, by the file's own and the index
 -- Assumes nothing.
 use Prim.Native.Nat.{ℕ, zero, suc, ◌+◌, ◌-◌, ◌*◌, ◌<◌, ◌≤◌}
-use Rattle.std.specs.Prelude.{◌≡◌, refl, Bool, true, false, not, cond, ◌&&◌, ◌||◌, List, [], ◌∷◌, ◌++◌, ltb, eqb, length, get_or, drop}
+use Rattle.std.specs.Prelude.{◌≡◌, refl, Bool, true, false, not, cond, ◌&&◌, ◌||◌, List, [], ◌∷◌, ◌++◌, ltb, eqb, length, get_or, drop, Ok, Err}
 use Rattle.std.proofs.Common.{sym, ◌∙◌, arith, eq-eqb, ltb-false, eqb-true, lt-ltb, le-ltb}
 use Rattle.std.proofs.Math.Path.{ap}
 use Rattle.std.proofs.lemmas.Bool.{not-false}
 use Rattle.rules.specs.declared.Record.{Record}
 use Rattle.rules.specs.declared.Form.{Form}
-use Rattle.rules.specs.declared.Opened.TheVariants.{Records, Refused}
+use Rattle.rules.specs.declared.Records.{Records}
 use Rattle.rules.specs.Refusals.{Case, first, or_else}
 use Rattle.rules.specs.QueryFile.{stands, is_edition, is_wide, record_size, edition_bytes, file_form, trailer_place, back_pointer, record_count, open_cases, open_refusal, open_unless, opened, index, reach_refusal, no_record, fetch_unless}
 use Rattle.queries.specs.Sizes.{record_within, short_size}
@@ -39,7 +39,7 @@ ten_exactly s =
     go false false true e = eq-eqb b b refl
     go false false false e = e
 
-pub refused_open : (k edition place n : ℕ) → (k ≡ 0 → ⊥) → Refused k ≡ open_unless k edition place n
+pub refused_open : (k edition place n : ℕ) → (k ≡ 0 → ⊥) → Err k ≡ open_unless k edition place n
 unfolding open_unless
 refused_open zero edition place n h = absurd (h refl)
 refused_open (suc k) edition place n h = refl
@@ -86,18 +86,26 @@ pub record Holds (form : Form) (s : List ℕ) (edition place n : ℕ) : Type 0 w
   pub few : n ≤ 4096
   pub ends : place + form.size * n + 16 ≡ length s
 
-records : (k d p m edition place n : ℕ) → open_unless k d p m ≡ Records edition place n → (k ≡ 0) × (edition ≡ d) × (place ≡ p) × (n ≡ m)
+found : (k edition place n : ℕ) (o : Records) → open_unless k edition place n ≡ Ok o → (k ≡ 0) × (o ≡ record { edition = edition; first = place; count = n })
 unfolding open_unless
-records zero d p m edition place n e = (refl, cc, cc, cc)
-records (suc k) d p m edition place n e = let z : ◌≡◌ {A = ℕ} 0 1 = cc in absurd (omega arith)
+found zero edition place n o e = (refl, cc)
+found (suc k) edition place n o e = absurd (cc)
 
-pub opened_records : (form : Form) (s : List ℕ) (edition place n : ℕ) → opened form s ≡ Records edition place n → Holds form s edition place n
+pub opened_records : (form : Form) (s : List ℕ) (o : Records) → opened form s ≡ Ok o → Holds form s o.edition o.first o.count
 unfolding opened
-opened_records form s edition place n e =
-    let h = records (open_refusal form s) form.edition (trailer_place s - back_pointer s) (record_count s) edition place n e in
-    let o = opens form s h.0 in
-    let w : back_pointer s ≡ form.size * n = o.whole ∙ ap (λ (k : ℕ). form.size * k) (sym h.3) in
-    record { none = h.0; names = h.1; starts = h.2; counts = h.3; few = omega (arith, o.few); ends = omega (arith, o.long, o.room) }
+opened_records form s o e =
+    let h = found (open_refusal form s) form.edition (trailer_place s - back_pointer s) (record_count s) o e in
+    let x = opens form s h.0 in
+    let n : o.count ≡ record_count s = ap (λ (r : Records). r.count) h.1 in
+    let w : back_pointer s ≡ form.size * o.count = x.whole ∙ ap (λ (k : ℕ). form.size * k) (sym n) in
+    record {
+      none = h.0;
+      names = ap (λ (r : Records). r.edition) h.1;
+      starts = ap (λ (r : Records). r.first) h.1;
+      counts = n;
+      few = omega (arith, x.few);
+      ends = let first : o.first ≡ trailer_place s - back_pointer s = ap (λ (r : Records). r.first) h.1 in omega (arith, x.long, x.room);
+    }
 
 -- by the edition: the records end where the trailer begins, and record k stands before it
 pub records_end : {s : List ℕ} {edition place n : ℕ} → Holds (file_form s) s edition place n → place + record_size edition * n + 16 ≡ length s
@@ -113,12 +121,12 @@ record_fits {s} {edition} {place} {n} h k l = record_within (record_size edition
 pub few_records : {s : List ℕ} {edition place n : ℕ} → Holds (file_form s) s edition place n → length s ≤ 65536 → n ≤ 564
 few_records {s} {edition} {place} {n} h short = short_size (is_wide edition) n (omega (arith, records_end h))
 
-refused : (k d p m j : ℕ) → open_unless k d p m ≡ Refused j → (k ≡ j) × (j ≡ 0 → ⊥)
+refused : (k edition place n j : ℕ) → open_unless k edition place n ≡ Err j → (k ≡ j) × (j ≡ 0 → ⊥)
 unfolding open_unless
-refused zero d p m j e = let z : ◌≡◌ {A = ℕ} 0 1 = cc in absurd (omega arith)
-refused (suc k) d p m j e = let h : suc k ≡ j = cc in (h, λ q. omega arith)
+refused zero edition place n j e = absurd (cc)
+refused (suc k) edition place n j e = let h : suc k ≡ j = cc in (h, λ q. omega arith)
 
-pub opened_refused : (form : Form) (s : List ℕ) (k : ℕ) → opened form s ≡ Refused k → (open_refusal form s ≡ k) × (k ≡ 0 → ⊥)
+pub opened_refused : (form : Form) (s : List ℕ) (k : ℕ) → opened form s ≡ Err k → (open_refusal form s ≡ k) × (k ≡ 0 → ⊥)
 unfolding opened
 opened_refused form s k e = refused (open_refusal form s) form.edition (trailer_place s - back_pointer s) (record_count s) k e
 

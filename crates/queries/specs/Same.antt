@@ -12,8 +12,7 @@ use Rattle.std.proofs.Math.ListN.{length, take, drop, take-append-drop, length-d
 use Rattle.std.proofs.Math.Seq.{take-add, take_all}
 use Rattle.rules.specs.declared.Record.{Record}
 use Rattle.rules.specs.declared.Form.{Form}
-use Rattle.rules.specs.declared.Opened.TheVariants.{Records}
-use Rattle.rules.specs.QueryFile.{word_bytes, is_edition, record_size, record_at, edition_of, file_form, edition_bytes, trailer_bytes, joined, read_from, form_bytes, file_bytes, trailer_place, record_count, open_refusal, opened}
+use Rattle.rules.specs.QueryFile.{word_bytes, is_edition, record_size, record_at, edition_of, file_form, edition_bytes, trailer_bytes, joined, read_from, form_bytes, file_bytes, trailer_place, record_count, open_refusal, records, opened}
 use Rattle.little.specs.Word.{Bytes, word_same}
 use Rattle.little.specs.Stands.{stands_bytes}
 use Rattle.queries.specs.Opening.{opens, opened_records}
@@ -44,11 +43,11 @@ module _ (form : Form) (s : List ℕ) (b : Bytes s) (four_long : length form.mar
       parts l = rw (← take-add 4 4 l, ← take-add 8 4 l, ← take-add 12 4 l)
 
 module _ {form : Form} {R : Type 0} (w : Layout form R) where
-  pub formed_same : (s : List ℕ) (edition place n : ℕ) → Bytes s → opened form s ≡ Records edition place n
+  pub formed_same : (s : List ℕ) (edition place n : ℕ) → Bytes s → opened form s ≡ records edition place n
       → form_bytes form w.bytes (take place s) (read_from w.read form.size s place n) ≡ s
   unfolding form_bytes
   formed_same s edition place n b e =
-      let h = opened_records form s edition place n e in
+      let h = opened_records form s (record { edition = edition; first = place; count = n }) e in
       let size = form.size * n in
       let whole : place + size + 16 ≡ length s = h.ends in
       let t : trailer_place s ≡ place + size = omega arith in
@@ -62,10 +61,10 @@ module _ {form : Form} {R : Type 0} (w : Layout form R) where
       ∙ take-append-drop (place + size) s
 
 -- a query file, by the edition that it names
-pub file_same : (s : List ℕ) (edition place n : ℕ) → Bytes s → opened (file_form s) s ≡ Records edition place n
+pub file_same : (s : List ℕ) (edition place n : ℕ) → Bytes s → opened (file_form s) s ≡ records edition place n
     → file_bytes edition (take place s) (read_from (record_at edition) (record_size edition) s place n) ≡ s
 file_same s edition place n b e =
-    ap (λ (d : ℕ). file_bytes d (take place s) (read_from (record_at d) (record_size d) s place n)) (opened_records (file_form s) s edition place n e).names
+    ap (λ (d : ℕ). file_bytes d (take place s) (read_from (record_at d) (record_size d) s place n)) (opened_records (file_form s) s (record { edition = edition; first = place; count = n }) e).names
     ∙ formed_same (layout (edition_of s)) s edition place n b e
 
 -- ---- no two lists of records give the same bytes

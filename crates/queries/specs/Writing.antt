@@ -2,12 +2,12 @@
 --     refused_write, done_write    a writer's answer and the bytes after it, by its refusal
 --     written_once                 and there is no other
 --     Puts                         the same as a number; `refuses_put`, `does_put`; and `puts_once`
---     write_is, write_room         the refusal of a record, as the code makes it, and what none says
+--     write_is, write_room         the refusal of a record by its own rows and those behind, and what none says
 --     trailer_room                 what no refusal of a trailer says
 --     trailer_edition              the refusal of a query file's trailer, by its edition
 -- Assumes nothing.
 use Prim.Native.Nat.{ℕ, zero, suc, ◌+◌, ◌-◌, ◌*◌, ◌<◌, ◌≤◌}
-use Rattle.std.specs.Prelude.{◌≡◌, refl, Bool, not, cond, ltb, length}
+use Rattle.std.specs.Prelude.{◌≡◌, refl, Bool, not, cond, ltb, length, Result, Ok, Err}
 use Rattle.std.proofs.Math.Path.{sym}
 use Rattle.std.proofs.Common.{◌∙◌, mul-le-mul}
 use Rattle.std.proofs.Math.Bool.{true, false}
@@ -16,27 +16,30 @@ use native.Mathlib.Omega.{arith}
 use borrow.Author.Tests.{ltb-false, not-false}
 use Rattle.rules.specs.declared.Record.{Record}
 use Rattle.rules.specs.declared.Form.{Form}
-use Rattle.rules.specs.declared.Wrote.{Wrote}
-use Rattle.rules.specs.declared.Wrote.TheVariants.{Done, Refused}
-use Rattle.rules.specs.Refusals.{Case, first, cases_with}
-use Rattle.rules.specs.QueryFile.{is_edition, is_wide, size_by, record_size, query_form, put, no_edition, space, has_room, has_cap_room, in_edition, write_refusal, trailer_refusal, query_trailer_refusal, wrote_unless, put_unless, Written}
+use Rattle.rules.specs.declared.Refusal.{Refusal}
+use Rattle.rules.specs.Refusals.{Case, number_of, first, cases_with}
+use Rattle.rules.specs.QueryFile.{is_edition, is_wide, size_by, record_size, query_form, put, no_edition, space, has_room, has_cap_room, in_edition, write_refusal, trailer_refusal, query_trailer_refusal, put_unless, Written}
 use Rattle.refusals.specs.Cases.{first_or, first_append, not_due}
+use Rattle.refusals.specs.Numbered.{not_zero, same_answer}
 use Rattle.refusals.specs.Accepted.{Accepted, accepted_with}
 
 -- ---- by the refusal's number
 module _ (n : ℕ) (s : List ℕ) (at : ℕ) (bytes : List ℕ) where
-  pub refused_write : (k : ℕ) → k ≡ n → (k ≡ 0 → ⊥) → Written n s at bytes s (Refused k)
-  unfolding wrote_unless put_unless
-  refused_write zero e h = absurd (h refl)
-  refused_write (suc k) e h = record { says = rw (sym e); leaves = rw (sym e) }
+  kept : (k : ℕ) → (k ≡ 0 → ⊥) → s ≡ put_unless k s at bytes
+  unfolding put_unless
+  kept zero h = absurd (h refl)
+  kept (suc k) h = refl
 
-  pub done_write : (k : ℕ) (after : List ℕ) → k ≡ n → k ≡ 0 → after ≡ put s at bytes → Written n s at bytes after Done
-  unfolding wrote_unless put_unless
-  done_write k after e z p = let none : n ≡ 0 = sym e ∙ z in record { says = rw none; leaves = rw none p }
+  pub refused_write : (r : Refusal) → number_of r ≡ n → Written n s at bytes s (Err r)
+  refused_write r e = record { says = e; leaves = kept n (λ z. not_zero r (e ∙ z)) }
+
+  pub done_write : (after : List ℕ) → 0 ≡ n → after ≡ put s at bytes → Written n s at bytes after (Ok tt)
+  unfolding put_unless
+  done_write after e p = record { says = e; leaves = rw (sym e) p }
 
   -- no second answer and no second buffer fits
-  pub written_once : (x y : List ℕ) (v w : Wrote) → Written n s at bytes x v → Written n s at bytes y w → (x ≡ y) × (v ≡ w)
-  written_once x y v w p q = (p.leaves ∙ sym q.leaves, p.says ∙ sym q.says)
+  pub written_once : (x y : List ℕ) (v w : Result (Unit {0}) Refusal) → Written n s at bytes x v → Written n s at bytes y w → (x ≡ y) × (v ≡ w)
+  written_once x y v w p q = (p.leaves ∙ sym q.leaves, same_answer v w (p.says ∙ sym q.says))
 
 -- the same as a number: 0 where it is done
 pub record Puts (refusal : ℕ) (bytes out : List ℕ) (at : ℕ) (out' : List ℕ) (number : ℕ) : Type 0 where

@@ -1,7 +1,7 @@
 // A record of any edition, read and written at a place.
-ghost use Rattle.std.specs.Prelude.{◌≡◌, true, false, ◌+◌, ◌*◌, ◌≤◌, ◌<◌, length};
+ghost use Rattle.std.specs.Prelude.{◌≡◌, true, false, cond, ◌+◌, ◌*◌, ◌≤◌, ◌<◌, length};
 ghost use Rattle.queries.specs.Coordinates.{points_place};
-ghost use Rattle.rules.specs.QueryFile.{coordinates_at, coordinate_bytes, is_wide, record_size, record_by, record_at, bytes_by, record_bytes, put};
+ghost use Rattle.rules.specs.QueryFile.{word, size_by, coordinates_at, coordinate_bytes, is_wide, record_size, record_by, record_at, bytes_by, record_bytes, put};
 
 use little::{read_i32, read_u32, write_i32, write_u32, write4};
 use rules::Record;
@@ -33,10 +33,8 @@ fn read_points(s: &[u8], at: usize) -> [i32; 24]
     ensures { result ≡ coordinates_at s.now at 24 }
 {
     let mut p = [0i32; 24];
-    let mut i = 0;
-    while i < 24 {
+    for i in 0..24 {
         p[i] = read_i32(s, at + 4 * i);
-        i += 1;
     }
     p
 }
@@ -45,10 +43,8 @@ fn write_points(s: &mut [u8], at: usize, p: [i32; 24])
     requires { at + 96 ≤ length s.old }
     ensures { s.new ≡ put s.old at (coordinate_bytes p) }
 {
-    let mut i = 0;
-    while i < 24 {
+    for i in 0..24 {
         write_i32(s, at + 4 * i, p[i]);
-        i += 1;
     }
 }
 
@@ -60,32 +56,25 @@ pub fn points_place(edition: u8, at: usize) -> usize
     if is_wide(edition) { at + 32 } else { at + 20 }
 }
 
-// The record of edition 1, which has one separation for all axes.
-fn decode_narrow(s: &[u8], at: usize, edition: u8, points: [i32; 24]) -> Record
-    requires { (at + 116 ≤ length s.now) × (points ≡ coordinates_at s.now (at + 20) 24) }
-    ensures { result ≡ record_by false edition s.now at }
+// Where a part of a record stands behind its start.
+fn place(wide: bool, in_wide: usize, in_narrow: usize) -> usize
+    ensures { result ≡ cond wide in_wide in_narrow }
 {
-    Record {
-        kind: s[at],
-        flags: s[at + 1],
-        byte2: s[at + 2],
-        byte3: s[at + 3],
-        id: read_u32(s, at + 4),
-        dx: read_u32(s, at + 8),
-        dy: read_u32(s, at + 8),
-        dz: read_u32(s, at + 8),
-        tolerance: read_u32(s, at + 12),
-        budget: read_u32(s, at + 16),
-        cap: 0,
-        edition,
-        points,
-    }
+    if wide { in_wide } else { in_narrow }
 }
 
-// The record of edition 2 or 3.
-fn decode_wide(s: &[u8], at: usize, edition: u8, points: [i32; 24]) -> Record
-    requires { (at + 128 ≤ length s.now) × (points ≡ coordinates_at s.now (at + 32) 24) }
-    ensures { result ≡ record_by true edition s.now at }
+// The cap, which only a wide record has.
+fn cap_by(wide: bool, s: &[u8], at: usize) -> u32
+    requires { at + size_by wide ≤ length s.now }
+    ensures { result ≡ cond wide (word s.now (at + 28)) 0 }
+{
+    if wide { read_u32(s, at + 28) } else { 0 }
+}
+
+// The record of edition 2 or 3 where it is WIDE, else of edition 1, which has one separation for all axes.
+fn decode_by<const WIDE: bool>(s: &[u8], at: usize, edition: u8, points: [i32; 24]) -> Record
+    requires { (at + size_by WIDE ≤ length s.now) × (points ≡ coordinates_at s.now (at + cond WIDE 32 20) 24) }
+    ensures { result ≡ record_by WIDE edition s.now at }
 {
     Record {
         kind: s[at],
@@ -94,11 +83,11 @@ fn decode_wide(s: &[u8], at: usize, edition: u8, points: [i32; 24]) -> Record
         byte3: s[at + 3],
         id: read_u32(s, at + 4),
         dx: read_u32(s, at + 8),
-        dy: read_u32(s, at + 12),
-        dz: read_u32(s, at + 16),
-        tolerance: read_u32(s, at + 20),
-        budget: read_u32(s, at + 24),
-        cap: read_u32(s, at + 28),
+        dy: read_u32(s, at + place(WIDE, 12, 8)),
+        dz: read_u32(s, at + place(WIDE, 16, 8)),
+        tolerance: read_u32(s, at + place(WIDE, 20, 12)),
+        budget: read_u32(s, at + place(WIDE, 24, 16)),
+        cap: cap_by(WIDE, s, at),
         edition,
         points,
     }
@@ -111,9 +100,9 @@ pub fn decode(s: &[u8], at: usize, edition: u8) -> Record
 {
     let points = read_points(s, points_place(edition, at));
     if is_wide(edition) {
-        decode_wide(s, at, edition, points)
+        decode_by::<true>(s, at, edition, points)
     } else {
-        decode_narrow(s, at, edition, points)
+        decode_by::<false>(s, at, edition, points)
     }
 }
 
@@ -121,20 +110,19 @@ fn encode_narrow(s: &mut [u8], at: usize, r: Record)
     requires { at + 116 ≤ length s.old }
     ensures { s.new ≡ put s.old at (bytes_by false r) }
 {
-    write4(s, at, r.kind, r.flags, r.byte2, r.byte3);
+    write4(s, at, [r.kind, r.flags, r.byte2, r.byte3]);
     write_u32(s, at + 4, r.id);
     write_u32(s, at + 8, r.dx);
     write_u32(s, at + 12, r.tolerance);
     write_u32(s, at + 16, r.budget);
-    let points = r.points;
-    write_points(s, at + 20, points);
+    write_points(s, at + 20, r.points);
 }
 
 fn encode_wide(s: &mut [u8], at: usize, r: Record)
     requires { at + 128 ≤ length s.old }
     ensures { s.new ≡ put s.old at (bytes_by true r) }
 {
-    write4(s, at, r.kind, r.flags, r.byte2, r.byte3);
+    write4(s, at, [r.kind, r.flags, r.byte2, r.byte3]);
     write_u32(s, at + 4, r.id);
     write_u32(s, at + 8, r.dx);
     write_u32(s, at + 12, r.dy);
@@ -142,8 +130,7 @@ fn encode_wide(s: &mut [u8], at: usize, r: Record)
     write_u32(s, at + 20, r.tolerance);
     write_u32(s, at + 24, r.budget);
     write_u32(s, at + 28, r.cap);
-    let points = r.points;
-    write_points(s, at + 32, points);
+    write_points(s, at + 32, r.points);
 }
 
 pub fn encode(s: &mut [u8], at: usize, edition: u8, r: Record)

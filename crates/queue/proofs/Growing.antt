@@ -1,8 +1,8 @@
 -- The loop that writes the next level behind the present one.
-use mathlib.Core.Path.{◌≡◌, refl, sym, ap, ◌∙◌}
+use mathlib.Core.Path.{◌≡◌, sym, ap, ◌∙◌}
 use mathlib.Core.Bool.{Bool, true, false, cond}
 use mathlib.Core.List.{List, [], ◌∷◌, ◌++◌, map, append-nil}
-use Prim.Native.Nat.{ℕ, ◌+◌, ◌-◌, ◌^◌, ◌≤◌, ◌<◌, min}
+use Prim.Native.Nat.{ℕ, ◌+◌, ◌^◌, ◌≤◌, ◌<◌, min}
 use native.Mathlib.Nat.{add_assoc}
 use native.Mathlib.Numerals.{add-one}
 use native.Mathlib.Omega.{arith}
@@ -19,7 +19,7 @@ use Rattle.gap.specs.Asked.{in_face}
 use Rattle.queue.specs.declared.Halving.{Halving}
 use Rattle.queue.specs.declared.Half.{Half}
 use Rattle.queue.specs.declared.Taken.{Taken}
-use Rattle.queue.specs.declared.Next.TheVariants.{Room, Level}
+use Rattle.std.specs.Prelude.{Some, None}
 use Rattle.queue.specs.All.{All, all_snoc, all_imp}
 use Rattle.queue.specs.Ascending.{Ascending, ascending_snoc}
 use Rattle.queue.specs.Walk.{put, same_after}
@@ -42,7 +42,7 @@ pub record Written (q : Query) (k : Depths) (p : Parameter) (n h : ℕ) (old new
   pub done : map box_of (take m (drop h new)) ++ halves_from q k p (take n old) low.at high.at ≡ halves_from q k p (take n old) 0 0
 
 -- a level's halving knows the parameter that it is of
-module _ (pair : Pair) (k : Depths) (split : Parameter) (n : ℕ) (old : List ℕ) (grows : Grows pair k split old n) (c : Halving) (is : c ≡ halving_of pair.last k split) where
+module _ {pair : Pair} {k : Depths} {split : Parameter} {n : ℕ} {old : List ℕ} (grows : Grows pair k split old n) {c : Halving} (is : c ≡ halving_of pair.last k split) where
   same_split : c.split ≡ split
   same_split = ap (λ (d : Halving). d.split) is
 
@@ -72,13 +72,10 @@ module _ (pair : Pair) (k : Depths) (split : Parameter) (n : ℕ) (old : List �
     words = rw e (all_imp (Splits k p) (λ w. w < 2 ^ 60) (λ w x. x.fits) (take n old) splits);
   }
 
-  pub written_none : (low high : Half) → (low.at ≡ 0) × HalfIs (half_at p false (take n old)) n low → (high.at ≡ 0) × HalfIs (half_at p true (take n old)) n high → Written q k p n h old old low high 0
-  written_none low high l g = record { room = omega arith; len = refl; source = refl; beyond = refl; grid = tt; ascends = tt; before = tt; low_is = l.1; high_is = g.1; done = rw (l.0, g.0) }
-
   short : length (take n old) ≡ n
   short = length-take-le n old (omega (arith, grows.fits, grows.twice))
 
-  module _ (new : List ℕ) (low high : Half) (m : ℕ) (w : Written q k p n h old new low high m) where
+  module _ {new : List ℕ} {low high : Half} {m : ℕ} (w : Written q k p n h old new low high m) where
     abbrev written : List ℕ
     written = take m (drop h new)
 
@@ -102,7 +99,7 @@ module _ (pair : Pair) (k : Depths) (split : Parameter) (n : ℕ) (old : List �
     }
 
     -- the lesser of the two words that are next
-    module _ (word : ℕ) (lesser : word ≡ min low.word high.word) where
+    module _ {word : ℕ} (lesser : word ≡ min low.word high.word) where
       pub takes : word < c.bound → Takes c new n low high
       takes below = record {
         halvable = halvable new (omega (arith, w.len, grows.fits, grows.twice)) same_part;
@@ -117,9 +114,6 @@ module _ (pair : Pair) (k : Depths) (split : Parameter) (n : ℕ) (old : List �
 
         pub in_grid : InGrid k (box_of word)
         in_grid = step.of_level.grid
-
-        pub one_more_taken : n + n - (r.low.at + r.high.at) < n + n - (low.at + high.at)
-        one_more_taken = omega (arith, step.one_more, step.low_is.at_le, step.high_is.at_le)
 
         abbrev rest : List Box
         rest = halves_from q k p (take n old) r.low.at r.high.at
@@ -169,14 +163,14 @@ module _ (pair : Pair) (k : Depths) (split : Parameter) (n : ℕ) (old : List �
             }
 
         -- a half that has no room is one too many
-        no_room : in_face q k (box_of word) ≡ true → m ≡ h → NextIs h k whole old new Room
+        no_room : in_face q k (box_of word) ≡ true → m ≡ h → NextIs h k whole old new None
         no_room e l = (rw (← next true e) (omega (arith, length_part (box_of word) rest)), rw l at (first_placed (box_of word ∷ rest) (next true e)))
 
-        pub grown_room : in_face q k (box_of word) ≡ true → m ≡ h → Grown pair k split n old new Room
+        pub grown_room : in_face q k (box_of word) ≡ true → m ≡ h → Grown pair k split n old new None
         unfolding halves
         grown_room e l = record { next = rw same_split at (no_room e l); kept = w.source }
 
-      all_placed : c.bound ≤ word → NextIs h k whole old new (Level m)
+      all_placed : c.bound ≤ word → NextIs h k whole old new (Some m)
       all_placed far = record {
         fits = w.room;
         placed = sym (append-nil (map box_of written)) ∙ rw (all_taken q k p (take n old) n short grows.shallow splits grows.ascends low high w.low_is w.high_is (omega (arith, bound_is)) (omega (arith, bound_is))) at w.done;
@@ -185,6 +179,6 @@ module _ (pair : Pair) (k : Depths) (split : Parameter) (n : ℕ) (old : List �
         beyond = w.beyond;
       }
 
-      pub grown_level : c.bound ≤ word → Grown pair k split n old new (Level m)
+      pub grown_level : c.bound ≤ word → Grown pair k split n old new (Some m)
       unfolding halves
       grown_level far = record { next = rw same_split at (all_placed far); kept = w.source }

@@ -1,14 +1,14 @@
 -- The half that is taken is the first of the merge, where it is inside.
-use mathlib.Core.Path.{◌≡◌, refl, sym, subst, ◌∙◌}
+use mathlib.Core.Path.{◌≡◌, sym, subst, ◌∙◌}
 use mathlib.Core.Bool.{Bool, true, false, cond}
-use mathlib.Core.Logic.{◌⊎◌, inl, inr, ⊎_elim}
+use mathlib.Core.Logic.{⊎_elim}
 use mathlib.Core.List.{List, [], ◌∷◌}
 use Prim.Native.Nat.{ℕ, ◌+◌, ◌^◌, ◌≤◌, ◌<◌, min}
 use native.Mathlib.Omega.{arith}
+use Rattle.std.proofs.Math.Nat.{eq-or-lt_of_le}
 use lib.ListN.{length, get_or, take, drop, length-drop, drop_of_length-le}
 use lib.Seq.{get_or-take, get_or-drop}
-use lib.Dec.{ltb}
-use borrow.Author.Tests.{le-leb, lt-leb, ltb-true, ltb-false}
+use borrow.Author.Tests.{le-leb, lt-leb}
 use Rattle.rules.specs.declared.Parameter.{Parameter}
 use Rattle.rules.specs.Search.{Query, Box, Depths, stored, inside, not_after}
 use Rattle.kernel.specs.Ranges.{Shallow}
@@ -20,20 +20,13 @@ use Rattle.queue.specs.declared.Taken.{Taken}
 use Rattle.queue.specs.All.{All, all_at, all_front, all_imp}
 use Rattle.queue.specs.Ascending.{Ascending, ascending_from}
 use Rattle.queue.specs.Grid.{fits_grid, stored_of_level}
-use Rattle.queue.specs.Level.{OfLevel, Splits, Halvable, HalfIs, Took, TakenIs, halves_from, half_at, past, bound_of}
+use Rattle.queue.specs.Level.{OfLevel, Splits, Halvable, HalfIs, Took, TakenIs, halves_from, half_at, bound_of}
 use Rattle.queue.proofs.Capping.{outside_beyond}
 use Rattle.queue.proofs.Merging.{step_low, step_high, none_left}
 
-below : {a n : ℕ} → a ≤ n → (a < n) ⊎ (a ≡ n)
-below {a} {n} h = go (ltb a n) refl
-  where
-    go : (b : Bool) → ltb a n ≡ b → (a < n) ⊎ (a ≡ n)
-    go true e = inl (ltb-true a n e)
-    go false e = inr (omega (arith, ltb-false a n e))
-
 -- ---- a half at its place
 
-module _ (c : Halving) (high : Bool) (queue : List ℕ) (n i : ℕ) (x : Halvable c queue n) (i_le : i ≤ n) where
+module _ {c : Halving} (high : Bool) {queue : List ℕ} {n i : ℕ} (x : Halvable c queue n) (i_le : i ≤ n) where
   abbrev half : ℕ → Box
   half = half_at c.split high (take n queue)
 
@@ -44,13 +37,6 @@ module _ (c : Halving) (high : Bool) (queue : List ℕ) (n i : ℕ) (x : Halvabl
   half_there l word is =
       let as_stored : word ≡ stored (half_of c.split high (box_of (get_or queue i 0))) = is ∙ rw (x.bits, x.one) (half_by_lem c.split high (get_or queue i 0) (word_fits l)) in
       record { at_le = i_le; word = λ h. rw (get_or-take n queue i 0 h) as_stored; none = λ z. absurd (omega arith) }
-
-  pub half_none : n ≤ i → HalfIs half n (record { at = i; word = past })
-  half_none e = record { at_le = i_le; word = λ h. absurd (omega arith); none = λ z. refl }
-
--- the one whose word is not past is there
-pub is_there : (half : ℕ → Box) (n : ℕ) (r : Half) → HalfIs half n r → r.word < past → r.at < n
-is_there half n r x h = ⊎_elim (λ l. l) (λ z. absurd (omega (arith, x.none z))) (below x.at_le)
 
 -- ---- a step of the merge
 
@@ -76,10 +62,10 @@ module _ (q : Query) (k : Depths) (p : Parameter) (ws : List ℕ) (n : ℕ) (lon
     later : All (NotLess high one.word) (drop one.at ws)
     later =
         ⊎_elim
+        (λ z. rw (ended one.at z) tt)
         (λ l. subst (λ (w : ℕ). All (NotLess high w) (drop one.at ws)) (sym (x.word l))
         (ascending_from (Splits k p) (λ w. NotLess high (stored (half_of p high (box_of w)))) (in_order high) ws one.at ascends splits (omega arith)))
-        (λ z. rw (ended one.at z) tt)
-        (below x.at_le)
+        (eq-or-lt_of_le x.at_le)
 
     pub all_outside : bound_of q.last k ≤ one.word → All (λ v. inside q k (half_of p high (box_of v)) ≡ false) (drop one.at ws)
     all_outside h =
@@ -105,10 +91,10 @@ module _ (q : Query) (k : Depths) (p : Parameter) (ws : List ℕ) (n : ℕ) (lon
       next_not_less : (next : Half) → next.at ≡ one.at + 1 → HalfIs (half_at p high ws) n next → one.word ≤ next.word
       next_not_less next e y =
           ⊎_elim
+          (λ z. omega (arith, y.none z, of_level.fits))
           (λ (l : next.at < n). let later-one = all_at (NotLess high one.word) (drop one.at ws) 1 later (rw (length-drop one.at ws) (omega (arith, l))) in
           rw (y.word l, e) (rw (get_or-drop one.at ws 1 0) at later-one.0))
-          (λ z. omega (arith, y.none z, of_level.fits))
-          (below y.at_le)
+          (eq-or-lt_of_le y.at_le)
 
   -- what a half that is taken is to the merge and to the two that are next
   pub record Steps (low high : Half) (word : ℕ) (r : Taken) : Type 0 where

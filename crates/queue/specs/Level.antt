@@ -1,5 +1,5 @@
 -- A level as the first words of the queue, and how the next one grows from it.
-use Rattle.std.specs.Prelude.{◌≡◌, Bool, true, false, ◌⊎◌, List, map, ℕ, ◌+◌, ◌-◌, ◌*◌, ◌/◌, ◌^◌, ◌≤◌, ◌<◌, min, length, get_or, take, drop}
+use Rattle.std.specs.Prelude.{◌≡◌, Bool, true, false, ◌⊎◌, List, map, ℕ, ◌+◌, ◌-◌, ◌*◌, ◌/◌, ◌^◌, ◌≤◌, ◌<◌, min, length, get_or, take, drop, Option, Some, None}
 use Rattle.rules.specs.declared.Parameter.{Parameter}
 use Rattle.rules.specs.Search.{Query, Box, Depths, stored, low_half, high_half, inside, those, merge, halves}
 use Rattle.kernel.specs.declared.Pair.{Pair}
@@ -9,8 +9,6 @@ use Rattle.boxes.specs.Boxes.{box_of, half_of, index_bits, index_one}
 use Rattle.queue.specs.declared.Halving.{Halving}
 use Rattle.queue.specs.declared.Half.{Half}
 use Rattle.queue.specs.declared.Taken.{Taken}
-use Rattle.queue.specs.declared.Next.{Next}
-use Rattle.queue.specs.declared.Next.TheVariants.{Room, Level}
 use Rattle.queue.specs.All.{All}
 use Rattle.queue.specs.Ascending.{Ascending}
 
@@ -100,10 +98,10 @@ pub record Placed (h m : ℕ) (k : Depths) (boxes : List Box) (old new : List �
   pub beyond : drop (h + m) new ≡ drop (h + m) old
 
 -- more boxes than there is room for, of which the first h are placed, or a level that is placed
-abbrev pub NextIs : ℕ → Depths → List Box → List ℕ → List ℕ → Next → Type 0
-NextIs h k boxes old new Room = (h < length boxes) × Placed h h k (take h boxes) old new
-NextIs h k boxes old new (Level m) = Placed h m k boxes old new
+abbrev pub NextIs : ℕ → Depths → List Box → List ℕ → List ℕ → Option ℕ → Type 0
+NextIs h k boxes old new None = (h < length boxes) × Placed h h k (take h boxes) old new
+NextIs h k boxes old new (Some m) = Placed h m k boxes old new
 
-pub record Grown (p : Pair) (k : Depths) (split : Parameter) (n : ℕ) (old new : List ℕ) (r : Next) : Type 0 where
+pub record Grown (p : Pair) (k : Depths) (split : Parameter) (n : ℕ) (old new : List ℕ) (r : Option ℕ) : Type 0 where
   pub next : NextIs p.room k (halves (asked p) k split (map box_of (take n old))) old new r
   pub kept : take p.room new ≡ take p.room old

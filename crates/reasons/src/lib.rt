@@ -3,15 +3,14 @@
 
 ghost use Rattle.std.specs.Prelude.{◌≡◌, ◌≤◌, length};
 ghost use Rattle.rules.specs.QueryFile.{put};
-ghost use Rattle.rules.specs.Gap.{place};
-ghost use Rattle.rules.specs.Why.{side_number, nine};
+ghost use Rattle.rules.specs.Why.{nine};
 ghost use Rattle.kernel.specs.Ranges.{OnGrid};
 ghost use Rattle.reasons.specs.Telling.{Rules, TellsWhy};
 
 use answers::write_four;
-use descent::{ask_refusal, why_accepted};
+use descent::{check_ask, why_accepted};
 use queries::fetch;
-use rules::{Axis, Reason, Ruling, Side, Three};
+use rules::{Reason, Refusal, Ruling, Three};
 
 // Record n of a file and a point, in parts. 14, where there is no room for what is to be told, comes before the search.
 pub fn rule(file: &[u8], n: usize, at: Three, room: bool, queue: &mut [u64]) -> Ruling
@@ -23,33 +22,13 @@ pub fn rule(file: &[u8], n: usize, at: Three, room: bool, queue: &mut [u64]) -> 
         return Ruling::Refused(refusal);
     }
     let query = f.query;
-    let number = ask_refusal(query, queue.len(), at);
-    if number != 0 {
-        return Ruling::Refused(number);
+    if let Err(refusal) = check_ask(query, queue.len(), at) {
+        return Ruling::Refused(refusal.number());
     }
     if !room {
-        return Ruling::Refused(14);
+        return Ruling::Refused(Refusal::Space.number());
     }
     why_accepted(query, at, queue)
-}
-
-fn axis_number(axis: Axis) -> u32
-    ensures { result ≡ place axis }
-{
-    match axis {
-        Axis::X => 0,
-        Axis::Y => 1,
-        Axis::Z => 2,
-    }
-}
-
-fn side_number(side: Side) -> u32
-    ensures { result ≡ side_number side }
-{
-    match side {
-        Side::Below => 0,
-        Side::Above => 1,
-    }
 }
 
 // The nine numbers of a box that is named, from the first place on.
@@ -59,18 +38,9 @@ fn write_nine(out: &mut [u32], x: Reason)
 {
     let k = x.depths;
     let i = x.index;
-    let axis = x.axis;
-    let side = x.side;
     write_four(out, 0, x.level as u32, k.t as u32, k.u as u32, k.v as u32);
-    write_four(
-        out,
-        4,
-        i.t as u32,
-        i.u as u32,
-        i.v as u32,
-        axis_number(axis),
-    );
-    out[8] = side_number(side);
+    write_four(out, 4, i.t as u32, i.u as u32, i.v as u32, x.axis as u32);
+    out[8] = x.side as u32;
 }
 
 // The same told: t, u, v of any 32 bits.
@@ -90,8 +60,7 @@ pub fn tell(
         u: u as u64,
         v: v as u64,
     };
-    let a = rule(file, n, at, 9 <= out.len(), queue);
-    match a {
+    match rule(file, n, at, 9 <= out.len(), queue) {
         Ruling::Refused(number) => number,
         Ruling::Discarded(x) => {
             write_nine(out, x);

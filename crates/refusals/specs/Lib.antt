@@ -2,3 +2,4 @@
 pub mod Cases
 pub mod Every
 pub mod Accepted
+pub mod Numbered

@@ -1,13 +1,12 @@
 // Rows 1 to 7 of document 01's table, lowest number first, with 22 between 6 and 7 (document 02, R-7). The search and the query file share them.
 #![tactic(auto)]
 
-ghost use Rattle.std.specs.Prelude.{◌≡◌, ◌||◌, cond, eqb, pos};
+ghost use Rattle.std.specs.Prelude.{◌≡◌, ◌||◌, eqb, pos};
 ghost use Rattle.rules.specs.Numbers.{between, limits_by, limits_of, is_coordinate, is_queue};
 ghost use Rattle.rules.specs.QueryFile.{is_edition};
-ghost use Rattle.rules.specs.Refusals.{every, are_flags, are_separations, cases_with, record_refusal, search_refusal};
-ghost use Rattle.refusals.specs.Cases.{first_or};
+ghost use Rattle.rules.specs.Refusals.{first, refusal_in, every, are_flags, are_separations, cases_with, record_refusal, search_refusal};
 
-use rules::Record;
+use rules::{Record, Refusal};
 
 // Both sides of each `&` and `|` here are always worked out, so that a test is one value and no branch.
 fn is_between(low: u32, high: u32, n: u32) -> bool
@@ -72,10 +71,8 @@ fn are_within(longer: bool, s: &[i32]) -> bool
     ensures { result ≡ every (is_coordinate (limits_by longer)) s.now }
 {
     let mut all = true;
-    let mut i = 0;
-    while i < s.len() {
-        all = all & is_coordinate(longer, s[i]);
-        i += 1;
+    for c in s {
+        all &= is_coordinate(longer, *c);
     }
     all
 }
@@ -97,54 +94,64 @@ fn is_queue(words: usize) -> bool
     (2 <= words) & (words <= 1048576)
 }
 
-// `number` where the row is due, else `rest`: a row of the table before the others.
-pub fn first(due: bool, number: u32, rest: u32) -> u32
-    ensures { result ≡ cond due number rest }
-{
-    if due { number } else { rest }
-}
-
-// The first of 1 to 6 and 22 that is due, else `rest`: from the last row to the first. `right`: every coordinate is one, which who reads them has tested. 4 also
-// where there is no room for the separations, 22 also where there is none for the cap.
-fn refusal_by(room: bool, holds: bool, r: Record, right: bool, rest: u32) -> u32
+// The first of 1 to 6 and 22 that is due. `right`: every coordinate is one, which who reads them has tested. 4 also where there is no room for the separations,
+// 22 also where there is none for the cap.
+fn check_by(room: bool, holds: bool, r: Record, right: bool) -> Result<(), Refusal>
     requires { right ≡ every (is_coordinate (limits_of r.edition)) r.points }
-    ensures { result ≡ first_or (cases_with room holds r) rest }
+    ensures { refusal_in result ≡ first (cases_with room holds r) }
 {
-    let cap = first(!(holds & is_between(0, 1048576, r.cap)), 22, rest);
-    let six = first(!is_between(1, 1000000, r.budget), 6, cap);
-    let least = least_tolerance(r.edition);
-    let five = first(!is_between(least, 1048576, r.tolerance), 5, six);
-    let four = first(!(room & are_separations(r)), 4, five);
-    let three = first(!right, 3, four);
-    let two = first(!are_flags(r), 2, three);
-    first(!is_kind(r.kind), 1, two)
+    if !is_kind(r.kind) {
+        return Err(Refusal::Kind);
+    }
+    if !are_flags(r) {
+        return Err(Refusal::Flags);
+    }
+    if !right {
+        return Err(Refusal::Coord);
+    }
+    if !(room & are_separations(r)) {
+        return Err(Refusal::Separation);
+    }
+    if !is_between(least_tolerance(r.edition), 1048576, r.tolerance) {
+        return Err(Refusal::Tolerance);
+    }
+    if !is_between(1, 1000000, r.budget) {
+        return Err(Refusal::Budget);
+    }
+    if !(holds & is_between(0, 1048576, r.cap)) {
+        return Err(Refusal::Cap);
+    }
+    Ok(())
 }
 
-pub fn refusal_with(room: bool, holds: bool, r: Record, rest: u32) -> u32
-    ensures { result ≡ first_or (cases_with room holds r) rest }
+pub fn check_with(room: bool, holds: bool, r: Record) -> Result<(), Refusal>
+    ensures { refusal_in result ≡ first (cases_with room holds r) }
 {
-    let points = r.points;
-    refusal_by(room, holds, r, are_coordinates(r.edition, &points), rest)
+    check_by(room, holds, r, are_coordinates(r.edition, &r.points))
 }
 
-// What a record is refused for by itself, 1 to 6 and 22; 0: nothing.
-pub fn record_refusal(r: Record) -> u32
-    ensures { result ≡ record_refusal r }
+// Whether a record by itself is refused, 1 to 6 and 22.
+pub fn check_record(r: Record) -> Result<(), Refusal>
+    ensures { refusal_in result ≡ record_refusal r }
 {
-    refusal_with(true, true, r, 0)
+    check_with(true, true, r)
 }
 
-// What a search of it with so many queue words is refused for, 1 to 6, 22 and 7; 0: nothing. Its coordinates are tested already.
-pub fn search_refusal_by(r: Record, right: bool, words: usize) -> u32
+// Whether a search of it with so many queue words is refused, 1 to 6, 22 and 7. Its coordinates are tested already.
+pub fn check_search_by(r: Record, right: bool, words: usize) -> Result<(), Refusal>
     requires { right ≡ every (is_coordinate (limits_of r.edition)) r.points }
-    ensures { result ≡ search_refusal r words }
+    ensures { refusal_in result ≡ search_refusal r words }
 {
-    refusal_by(true, true, r, right, first(!is_queue(words), 7, 0))
+    check_by(true, true, r, right)?;
+    if is_queue(words) {
+        Ok(())
+    } else {
+        Err(Refusal::Queue)
+    }
 }
 
-pub fn search_refusal(r: Record, words: usize) -> u32
-    ensures { result ≡ search_refusal r words }
+pub fn check_search(r: Record, words: usize) -> Result<(), Refusal>
+    ensures { refusal_in result ≡ search_refusal r words }
 {
-    let points = r.points;
-    search_refusal_by(r, are_coordinates(r.edition, &points), words)
+    check_search_by(r, are_coordinates(r.edition, &r.points), words)
 }

@@ -3,7 +3,7 @@
 --     told_text                the text of an input that is not refused; `refused_text_lem` of one that is
 --     retold_once              no second answer and no second buffer fits what the page promises
 -- Assumes nothing.
-use Rattle.std.specs.Prelude.{ℕ, ◌≤◌, ◌<◌, ◌≡◌, Bool, not, List, [], ◌∷◌, length}
+use Rattle.std.specs.Prelude.{ℕ, ◌≤◌, ◌<◌, ◌≡◌, Bool, not, List, [], ◌∷◌, Option, length}
 use Rattle.std.proofs.Math.Path.{sym, ap}
 use Rattle.std.proofs.Common.{◌∙◌, lt-ltb, le-ltb}
 use Rattle.std.proofs.Math.Bool.{cond}
@@ -12,7 +12,6 @@ use Rattle.rules.specs.QueryFile.{record_count, place_in, open_refusal}
 use Rattle.rules.specs.AnswerFile.{answer_form}
 use Rattle.queries.specs.Opening.{refused_first, opens_first}
 use Rattle.shift_log.specs.Calls.{are_taken}
-use Rattle.text.specs.declared.Written.{Written}
 use Rattle.text.specs.Text.{rows, file_text, refused_text}
 use Rattle.text.specs.Laws.{printed_once}
 use Rattle.page.specs.Page.{page_unless}
@@ -51,5 +50,5 @@ module _ (log : List ℕ) where
   unfolding page_unless
   told_text e = sym (page_of e)
 
-pub retold_once : (log : List ℕ) {out out' out'' : List ℕ} {r r' : Written} → Retold log out out' r → Retold log out out'' r' → (r ≡ r') × (out' ≡ out'')
+pub retold_once : (log : List ℕ) {out out' out'' : List ℕ} {r r' : Option ℕ} → Retold log out out' r → Retold log out out'' r' → (r ≡ r') × (out' ≡ out'')
 retold_once log p q = printed_once p q

@@ -1,10 +1,9 @@
 -- What `tell` prints of an answer file: the lines that `sweep` prints of the queries, told from the file (document 02, R-1).
-use Rattle.std.specs.Prelude.{ℕ, Bool, not, List, [], ◌∷◌, ◌++◌, leb, ltb, length}
+use Rattle.std.specs.Prelude.{ℕ, Bool, not, List, [], ◌∷◌, ◌++◌, leb, ltb, Option, length}
 use Rattle.rules.specs.Refusals.{Case, first}
 use Rattle.rules.specs.QueryFile.{record_count, place_in, open_cases}
 use Rattle.rules.specs.AnswerFile.{answer_form}
 use Rattle.shift_log.specs.Calls.{are_taken, entries_told}
-use Rattle.text.specs.declared.Written.{Written}
 use Rattle.text.specs.Text.{rows, file_text}
 use Rattle.text.specs.Writers.{Printed}
 use Rattle.page.specs.Page.{page_unless}
@@ -29,5 +28,5 @@ abbrev pub room_for_told : List ℕ → Bool
 room_for_told buffer = leb 327_840 (length buffer)
 
 -- the text from the first place on, and no other byte changed; or nothing where there is no room
-abbrev pub Retold : List ℕ → List ℕ → List ℕ → Written → Type 0
+abbrev pub Retold : List ℕ → List ℕ → List ℕ → Option ℕ → Type 0
 Retold log out out' answer = Printed (room_for_told out) (tell_text log) out out' answer

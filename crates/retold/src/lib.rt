@@ -7,11 +7,10 @@ ghost use Rattle.text.specs.Text.{rows, file_text};
 ghost use Rattle.text.specs.Writers.{Printed};
 ghost use Rattle.retold.specs.Page.{Retold};
 
-use rules::Opened;
-use text::Written;
+use rules::Refusal;
 
 // The lines of a file's answers and their TOTAL, in a buffer that holds them.
-fn write_entries(log: &[u8], first: usize, count: usize, out: &mut [u8]) -> Written
+fn write_entries(log: &[u8], first: usize, count: usize, out: &mut [u8]) -> Option<usize>
     requires { (first + 32 * count ≤ length log.now) × ((count ≤ 4096) × (327840 ≤ length out.old)) }
     ensures { Printed true (file_text (rows count (entries_told log.now first count))) out.old out.new result }
 {
@@ -20,29 +19,23 @@ fn write_entries(log: &[u8], first: usize, count: usize, out: &mut [u8]) -> Writ
     text::write_answers(&told, count as u32, out)
 }
 
-// The text of a file's answers, or of its refusal, from the buffer's start. Nothing is written in a buffer of fewer than 327,840 bytes.
-pub fn write_told(log: &[u8], out: &mut [u8]) -> Written
+// The text of a file's answers, or of its refusal, from the buffer's start, and how many bytes it has. None, and nothing written, in a buffer of fewer than 327,840 bytes.
+pub fn write_told(log: &[u8], out: &mut [u8]) -> Option<usize>
     ensures { Retold log.now out.old out.new result }
 {
     if out.len() < 327840 {
-        return Written::Nothing;
+        return None;
     }
     if 262144 < log.len() {
-        return text::write_refused(15, out);
+        return text::write_refused(Refusal::Long.number(), out);
     }
-    let form = shift_log::entry::answer_form();
-    let o = queries::open_form(log, form);
-    match o {
-        Opened::Refused(number) => text::write_refused(number, out),
-        Opened::Records {
-            edition,
-            first,
-            count,
-        } => {
-            if shift_log::telling::are_taken(log, first, count) {
-                write_entries(log, first, count, out)
+    match queries::open_form(log, shift_log::entry::answer_form()) {
+        Err(refusal) => text::write_refused(refusal.number(), out),
+        Ok(answers) => {
+            if shift_log::telling::are_taken(log, answers.first, answers.count) {
+                write_entries(log, answers.first, answers.count, out)
             } else {
-                text::write_refused(16, out)
+                text::write_refused(Refusal::Word.number(), out)
             }
         }
     }

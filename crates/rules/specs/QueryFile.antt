@@ -1,14 +1,12 @@
 -- Document 01, "The query file", and rows 8 to 14 of the table with their orders; every edition of document 02.
 -- What an answer file shares with it is said of any form: a mark, an edition and the bytes that one record takes.
-use Rattle.std.specs.Prelude.{ℕ, zero, suc, ◌+◌, ◌-◌, ◌*◌, ◌/◌, ◌%◌, ◌≡◌, Bool, true, false, not, cond, ◌&&◌, ◌||◌, List, [], ◌∷◌, ◌++◌, ℤ, pos, negsuc, ◌-ℤ◌, length, get_or, take, drop, replicate, ltb, eqb}
+use Rattle.std.specs.Prelude.{ℕ, zero, suc, ◌+◌, ◌-◌, ◌*◌, ◌/◌, ◌%◌, ◌≡◌, Bool, true, false, not, cond, ◌&&◌, ◌||◌, List, [], ◌∷◌, ◌++◌, ℤ, pos, negsuc, ◌-ℤ◌, length, get_or, take, drop, replicate, ltb, eqb, Result, Ok, Err}
 use Rattle.rules.specs.declared.Record.{Record}
 use Rattle.rules.specs.declared.Form.{Form}
-use Rattle.rules.specs.declared.Opened.{Opened}
-use Rattle.rules.specs.declared.Opened.TheVariants as Open
+use Rattle.rules.specs.declared.Records.{Records}
 use Rattle.rules.specs.declared.Fetched.{Fetched}
-use Rattle.rules.specs.declared.Wrote.{Wrote}
-use Rattle.rules.specs.declared.Wrote.TheVariants as Write
-use Rattle.rules.specs.Refusals.{Case, first, cases_with, record_refusal}
+use Rattle.rules.specs.declared.Refusal.{Refusal}
+use Rattle.rules.specs.Refusals.{Case, refusal_in, first, cases_with, record_refusal}
 
 -- ---- numbers as bytes
 
@@ -167,12 +165,16 @@ open_cases form s =
 unfoldable pub open_refusal : Form → List ℕ → ℕ
 open_refusal form s = first (open_cases form s)
 
--- a refusal's number (0: none), or else where the records stand
-unfoldable pub open_unless : ℕ → ℕ → ℕ → ℕ → Opened
-open_unless zero edition place n = Open.Records edition place n
-open_unless (suc k) edition place n = Open.Refused (suc k)
+-- so many records of an edition, from a place on
+abbrev pub records : ℕ → ℕ → ℕ → Result Records ℕ
+records edition place n = Ok (record { edition = edition; first = place; count = n })
 
-unfoldable pub opened : Form → List ℕ → Opened
+-- a refusal's number (0: none), or else where the records stand
+unfoldable pub open_unless : ℕ → ℕ → ℕ → ℕ → Result Records ℕ
+open_unless zero edition place n = records edition place n
+open_unless (suc k) edition place n = Err (suc k)
+
+unfoldable pub opened : Form → List ℕ → Result Records ℕ
 opened form s = open_unless (open_refusal form s) form.edition (trailer_place s - back_pointer s) (record_count s)
 
 -- ---- fetching record n
@@ -275,17 +277,12 @@ trailer_refusal form s at n = first (trailer_cases form s at n)
 unfoldable pub query_trailer_refusal : ℕ → List ℕ → ℕ → ℕ → ℕ
 query_trailer_refusal edition s at n = first (no_edition edition ∷ trailer_cases (query_form edition) s at n)
 
--- a writer's answer by its refusal (0: none)
-unfoldable pub wrote_unless : ℕ → Wrote
-wrote_unless zero = Write.Done
-wrote_unless (suc k) = Write.Refused (suc k)
-
 -- "A refused write changes no byte; a done one changes only the 116 or 16 bytes written."
 unfoldable pub put_unless : {A : Type 0} → ℕ → List A → ℕ → List A → List A
 put_unless zero s at bytes = put s at bytes
 put_unless (suc k) s at bytes = s
 
 -- what a writer answers and leaves, by its refusal
-pub record Written (refusal : ℕ) (before : List ℕ) (at : ℕ) (bytes after : List ℕ) (answer : Wrote) : Type 0 where
-  pub says : answer ≡ wrote_unless refusal
+pub record Written (refusal : ℕ) (before : List ℕ) (at : ℕ) (bytes after : List ℕ) (answer : Result (Unit {0}) Refusal) : Type 0 where
+  pub says : refusal_in answer ≡ refusal
   pub leaves : after ≡ put_unless refusal before at bytes

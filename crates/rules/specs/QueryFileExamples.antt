@@ -1,12 +1,11 @@
 -- Document 01, "The query file": the berth's first case as the bytes of a file, opened and fetched, and what is refused of it. Each byte is worked out by hand.
-use Rattle.std.specs.Prelude.{ℕ, ◌≡◌, refl, List, [], ◌∷◌, ◌++◌, map, drop, take}
+use Rattle.std.specs.Prelude.{ℕ, ◌≡◌, refl, List, [], ◌∷◌, ◌++◌, map, drop, take, Result, Err}
 use Rattle.rules.specs.declared.Record.{Record}
-use Rattle.rules.specs.declared.Opened.{Opened}
-use Rattle.rules.specs.declared.Opened.TheVariants.{Records, Refused}
+use Rattle.rules.specs.declared.Records.{Records}
 use Rattle.rules.specs.declared.Fetched.{Fetched}
 use Rattle.rules.specs.Refusals.{first, every, record_refusal}
 use Rattle.rules.specs.Berth.{asked, apartly, p_t}
-use Rattle.rules.specs.QueryFile.{word, word_bytes, signed, bits, stands, coordinates_at, coordinate_bytes, record_by, bytes_by, trailer_bytes, joined, file_form, form_bytes, file_bytes, open_refusal, open_unless, opened, reach_refusal, no_record, fetch_unless, fetched}
+use Rattle.rules.specs.QueryFile.{word, word_bytes, signed, bits, stands, coordinates_at, coordinate_bytes, record_by, bytes_by, trailer_bytes, joined, file_form, form_bytes, file_bytes, open_refusal, records, open_unless, opened, reach_refusal, no_record, fetch_unless, fetched}
 
 -- ---- the bytes
 
@@ -55,7 +54,7 @@ file = of_kind 1 ++ ends (small 1) (small 116) (small 1)
 
 -- what opening a file says, and fetching a record of it
 pub record Seen : Type 0 where
-  pub opens : Opened
+  pub opens : Result Records ℕ
   pub fetches : Fetched
 
 pub record FileRow : Type 0 where
@@ -64,12 +63,12 @@ pub record FileRow : Type 0 where
   pub seen : Seen
 
 -- opened to so many records of an edition from a place on, and record n fetched, beside its own refusal
-abbrev pub found : List ℕ → ℕ → Opened → ℕ → Record → FileRow
+abbrev pub found : List ℕ → ℕ → Result Records ℕ → ℕ → Record → FileRow
 found bytes n opens refusal r = record { bytes = bytes; number = n; seen = record { opens = opens; fetches = record { refusal = refusal; query = r } } }
 
 -- refused, whatever record is asked for
 abbrev pub refused : List ℕ → ℕ → FileRow
-refused bytes n = found bytes 0 (Refused n) n no_record
+refused bytes n = found bytes 0 (Err n) n no_record
 
 abbrev pub first_case : Record
 first_case = asked 1 0 0 999 1000 p_t
@@ -77,19 +76,19 @@ first_case = asked 1 0 0 999 1000 p_t
 abbrev pub file_rows : List FileRow
 file_rows =
     -- the file; and behind three free bytes
-    found file 0 (Records 1 0 1) 0 first_case
-    ∷ found ((7 ∷ 7 ∷ 7 ∷ []) ++ file) 0 (Records 1 3 1) 0 first_case
+    found file 0 (records 1 0 1) 0 first_case
+    ∷ found ((7 ∷ 7 ∷ 7 ∷ []) ++ file) 0 (records 1 3 1) 0 first_case
     -- edition 2: three separations
-    ∷ found (wide ++ ends (small 2) (small 128) (small 1)) 0 (Records 2 0 1) 0 (apartly 1 0 300 1000 999 0 p_t)
+    ∷ found (wide ++ ends (small 2) (small 128) (small 1)) 0 (records 2 0 1) 0 (apartly 1 0 300 1000 999 0 p_t)
     -- a record that is refused is given beside its number: kind 3
-    ∷ found (of_kind 3 ++ ends (small 1) (small 116) (small 1)) 0 (Records 1 0 1) 1 (asked 3 0 0 999 1000 p_t)
+    ∷ found (of_kind 3 ++ ends (small 1) (small 116) (small 1)) 0 (records 1 0 1) 1 (asked 3 0 0 999 1000 p_t)
     -- "record number not below the count"; "A count of 0 has pointer 0", and all before it is free
-    ∷ found file 1 (Records 1 0 1) 13 no_record
-    ∷ found (of_kind 1 ++ ends (small 1) (small 0) (small 0)) 0 (Records 1 116 0) 13 no_record
+    ∷ found file 1 (records 1 0 1) 13 no_record
+    ∷ found (of_kind 1 ++ ends (small 1) (small 0) (small 0)) 0 (records 1 116 0) 13 no_record
     -- "file under 16 bytes": none, and 15; 16 are a file of no record
     ∷ refused [] 8
     ∷ refused (drop 117 file) 8
-    ∷ found (ends (small 1) (small 0) (small 0)) 0 (Records 1 0 0) 13 no_record
+    ∷ found (ends (small 1) (small 0) (small 0)) 0 (records 1 0 0) 13 no_record
     -- "trailer mark wrong": QENE; and the last byte lost
     ∷ refused (of_kind 1 ++ (81 ∷ 69 ∷ 78 ∷ 69 ∷ []) ++ small 1 ++ small 116 ++ small 1) 9
     ∷ refused (take 131 file) 9

@@ -1,12 +1,49 @@
 -- Document 01, "What comes back": rows 1 to 7 of the table, and their order; with 22 CAP of document 02, R-7.
-use Rattle.std.specs.Prelude.{ℕ, zero, suc, Bool, true, not, ◌&&◌, ◌||◌, cond, List, [], ◌∷◌, ◌++◌, ℤ, leb, eqb}
+use Rattle.std.specs.Prelude.{ℕ, zero, suc, Bool, true, not, ◌&&◌, ◌||◌, cond, List, [], ◌∷◌, ◌++◌, ℤ, leb, eqb, Result, Ok, Err}
 use Rattle.rules.specs.declared.Record.{Record}
+use Rattle.rules.specs.declared.Refusal.{Refusal}
+use Rattle.rules.specs.declared.Refusal.TheVariants.{Kind, Flags, Coord, Separation, Tolerance, Budget, Queue, Short, Mark, Edition, Count, Back, Index, Space, Long, Word, Match, Body, Cap, Domain, Later, Bounds}
 use Rattle.rules.specs.Numbers.{limits_of, is_coordinate, is_separation, is_tolerance, is_budget, is_cap, is_queue}
 
 -- a row of the table: its number, and whether it is given
 pub record Case : Type 0 where
   pub number : ℕ
   pub due : Bool
+
+-- the number of a row
+abbrev pub number_of : Refusal → ℕ
+number_of Kind = 1
+number_of Flags = 2
+number_of Coord = 3
+number_of Separation = 4
+number_of Tolerance = 5
+number_of Budget = 6
+number_of Queue = 7
+number_of Short = 8
+number_of Mark = 9
+number_of Edition = 10
+number_of Count = 11
+number_of Back = 12
+number_of Index = 13
+number_of Space = 14
+number_of Long = 15
+number_of Word = 16
+number_of Match = 17
+number_of Body = 21
+number_of Cap = 22
+number_of Domain = 23
+number_of Later = 24
+number_of Bounds = 27
+
+-- what a result is refused with; 0 where it is not
+abbrev pub refusal_in : {T : Type 0} → Result T Refusal → ℕ
+refusal_in (Ok x) = 0
+refusal_in (Err r) = number_of r
+
+-- a result with its refusal as a number
+abbrev pub numbered : {T : Type 0} → Result T Refusal → Result T ℕ
+numbered (Ok x) = Ok x
+numbered (Err r) = Err (number_of r)
 
 -- "lowest number first": the number of the first row that is due; 0 where none is
 unfoldable pub first : List Case → ℕ

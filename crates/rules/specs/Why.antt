@@ -1,5 +1,6 @@
 -- Document 02, R-8, "Why was it safe there?": from the whole domain down to a point, to the first box that was discarded.
-use Rattle.std.specs.Prelude.{ℕ, zero, suc, ◌+◌, ◌*◌, Bool, not, cond, ◌&&◌, ◌||◌, List, [], ◌∷◌, pos, neg_ℤ, length, replicate, leb, ltb, eqb}
+use Rattle.std.specs.Prelude.{ℕ, zero, suc, ◌+◌, ◌*◌, Bool, not, cond, ◌&&◌, ◌||◌, List, [], ◌∷◌, pos, neg_ℤ, length, replicate, leb, ltb, eqb, Option, Some, None}
+use Rattle.std.specs.Option.{option_or}
 use Rattle.std.specs.Int.Signed.{le_z}
 use Rattle.rules.specs.declared.Record.{Record}
 use Rattle.rules.specs.declared.Three.{Three}
@@ -11,7 +12,6 @@ use Rattle.rules.specs.declared.Axis.TheVariants.{X, Y, Z}
 use Rattle.rules.specs.declared.Side.{Side}
 use Rattle.rules.specs.declared.Side.TheVariants.{Below, Above}
 use Rattle.rules.specs.declared.Miss.{Miss}
-use Rattle.rules.specs.declared.Miss.TheVariants.{Nowhere, On}
 use Rattle.rules.specs.declared.Stop.{Stop}
 use Rattle.rules.specs.declared.Reason.{Reason}
 use Rattle.rules.specs.declared.Ruling.{Ruling}
@@ -51,19 +51,15 @@ holding p k box at = cond (goes_up p k box at) (high_half p box) (low_half p box
 -- ---- the axis and the side
 
 -- a box survives on an axis "when m is at most d and M at least -d" (document 01): else F is above d over all of it, or below -d
-unfoldable pub miss_on : Query → Depths → Box → Axis → Miss
+unfoldable pub miss_on : Query → Depths → Box → Axis → Option Miss
 miss_on q k box axis =
     cond (le_z (least q k box axis) (pos (q.separation axis * unit)))
-    (cond (le_z (neg_ℤ (pos (q.separation axis * unit))) (greatest q k box axis)) Nowhere (On axis Below))
-    (On axis Above)
-
-abbrev pub or_next : Miss → Miss → Miss
-or_next Nowhere m = m
-or_next (On axis side) m = On axis side
+    (cond (le_z (neg_ℤ (pos (q.separation axis * unit))) (greatest q k box axis)) None (Some (record { axis = axis; side = Below })))
+    (Some (record { axis = axis; side = Above }))
 
 -- "axis (x before y before z) and side"
-unfoldable pub missed : Query → Depths → Box → Miss
-missed q k box = or_next (miss_on q k box X) (or_next (miss_on q k box Y) (miss_on q k box Z))
+unfoldable pub missed : Query → Depths → Box → Option Miss
+missed q k box = option_or (miss_on q k box X) (option_or (miss_on q k box Y) (miss_on q k box Z))
 
 -- ---- the descent
 
@@ -82,9 +78,9 @@ reason_of s axis side =
     record { level = s.depths.t + s.depths.u + s.depths.v; depths = s.depths; index = s.index; axis = axis; side = side }
 
 -- "names the first box that was discarded"; `rest` goes on from one that was not
-abbrev pub name_or : Miss → Stop → Ruling → Ruling
-name_or (On axis side) s rest = Discarded (reason_of s axis side)
-name_or Nowhere s rest = rest
+abbrev pub name_or : Option Miss → Stop → Ruling → Ruling
+name_or (Some m) s rest = Discarded (reason_of s m.axis m.side)
+name_or None s rest = rest
 
 -- at most so many levels more; three times the depth limit are enough, and `Refused 0` is never answered
 unfoldable pub descend : ℕ → Query → Three → Stop → Ruling

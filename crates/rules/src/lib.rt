@@ -1,6 +1,55 @@
 // The values that document 01 speaks of, by value. The rules themselves stand in specs/.
 #![tactic(auto)]
 
+ghost use Rattle.std.specs.Prelude.{◌≡◌};
+ghost use Rattle.rules.specs.Refusals.{number_of, refusal_in};
+
+// What is refused: a row of the papers' tables, by its number.
+#[derive(Clone, Copy)]
+pub enum Refusal {
+    Kind = 1,
+    Flags = 2,
+    Coord = 3,
+    Separation = 4,
+    Tolerance = 5,
+    Budget = 6,
+    Queue = 7,
+    Short = 8,
+    Mark = 9,
+    Edition = 10,
+    Count = 11,
+    Back = 12,
+    Index = 13,
+    Space = 14,
+    Long = 15,
+    Word = 16,
+    Match = 17,
+    Body = 21,
+    Cap = 22,
+    Domain = 23,
+    Later = 24,
+    Bounds = 27,
+}
+
+impl Refusal {
+    // The number that files and C know it by.
+    pub fn number(self) -> u32
+        ensures { result ≡ number_of self }
+    {
+        self as u32
+    }
+}
+
+// The number of an answer that may be a refusal; 0 where it is none.
+pub fn number_in(answer: Result<(), Refusal>) -> u32
+    ensures { result ≡ refusal_in answer }
+{
+    match answer {
+        Ok(()) => 0,
+        Err(refusal) => refusal.number(),
+    }
+}
+
 // A query as it is handed to the search or to a writer: every field of the file's record.
 // `edition` is that of its file, by which its ranges and depths go. dx, dy, dz are the separations; `cap` is the last moment that is looked at, in 1/1,048,576 parts,
 // and 0 for the whole step: the word at 28 of editions 2 and 3, and 0 in edition 1.
@@ -102,15 +151,12 @@ pub struct Form {
     pub size: u8,
 }
 
-// What opening a file answers: its edition, where the first record stands and how many there are. A refusal carries its number.
+// Where a file's records stand: its edition, the place of the first and how many there are.
 #[derive(Clone, Copy)]
-pub enum Opened {
-    Records {
-        edition: u8,
-        first: usize,
-        count: usize,
-    },
-    Refused(u32),
+pub struct Records {
+    pub edition: u8,
+    pub first: usize,
+    pub count: usize,
 }
 
 // A fetched record and its refusal's number, 0 for none. (An enum cannot hold the record's array.)
@@ -118,13 +164,6 @@ pub enum Opened {
 pub struct Fetched {
     pub refusal: u32,
     pub query: Record,
-}
-
-// What a writer answers. A refusal carries its number.
-#[derive(Clone, Copy)]
-pub enum Wrote {
-    Done,
-    Refused(u32),
 }
 
 // What two bodies are asked with: one separation triple, tolerance and budget for all queries, and the edition whose ranges they go by.
@@ -178,11 +217,11 @@ pub enum Side {
     Above,
 }
 
-// Where a box is beyond the separation: nowhere, or over all of it on an axis and a side.
+// Where a box is beyond the separation over all of it.
 #[derive(Clone, Copy)]
-pub enum Miss {
-    Nowhere,
-    On(Axis, Side),
+pub struct Miss {
+    pub axis: Axis,
+    pub side: Side,
 }
 
 // A stop on the way down to a point: a box at its depths.

@@ -1,8 +1,9 @@
 -- The loop over the levels: what is left to do gives the whole search's answer.
 use mathlib.Core.Path.{◌≡◌, refl, sym, ap, ◌∙◌}
 use mathlib.Core.List.{List, [], ◌∷◌}
-use Prim.Native.Nat.{ℕ, zero, suc, ◌-◌, ◌<◌}
+use Prim.Native.Nat.{ℕ, zero, suc, ◌-◌}
 use native.Mathlib.Omega.{arith}
+use Rattle.std.proofs.lemmas.List.{take-replicate}
 use lib.ListN.{length, get_or, take, replicate}
 use Rattle.rules.specs.declared.Answer.{Answer}
 use Rattle.rules.specs.declared.Answer.TheVariants.{Met, Clear, Spent, Room, Floor, Refused}
@@ -13,9 +14,8 @@ use Rattle.rules.specs.Search.{origin, levels, run, unless, query, search}
 use Rattle.kernel.specs.declared.Pair.{Pair}
 use Rattle.kernel.specs.Kernel.{asked}
 use Rattle.search.specs.declared.Level.{Level}
-use Rattle.search.specs.declared.Step.{Step}
-use Rattle.search.specs.declared.Step.TheVariants.{Ends, Goes}
-use Rattle.search.specs.Levels.{Answers, boxes, Fine, total, go_on, StepIs, Zeroed}
+use Rattle.std.specs.declared.ops.ControlFlow.TheVariants.{Break, Continue}
+use Rattle.search.specs.Levels.{Step, Answers, boxes, Fine, total, go_on, StepIs, Zeroed}
 
 pub record Running (p : Pair) (n : ℕ) (queue : List ℕ) (l : Level) : Type 0 where
   pub fine : Fine p queue l
@@ -29,13 +29,9 @@ zeros_at zero a = refl
 zeros_at (suc n) zero = refl
 zeros_at (suc n) (suc a) = zeros_at n a
 
-zeros_front : (n : ℕ) → 0 < n → take 1 (replicate {A = ℕ} n 0) ≡ 0 ∷ []
-zeros_front zero h = absurd (omega arith)
-zeros_front (suc n) h = refl
-
-module _ (p : Pair) (queue : List ℕ) (z : Zeroed p queue) where
+module _ {p : Pair} {queue : List ℕ} (z : Zeroed p queue) where
   first : take 1 queue ≡ 0 ∷ []
-  first = ap (take 1) z.zero ∙ zeros_front (length queue) (omega (arith, z.room, z.ranged.least_room))
+  first = ap (take 1) z.zero ∙ take-replicate 1 (length queue) 0 (omega (arith, z.room, z.ranged.least_room))
 
   at_zero : (a : ℕ) → get_or queue a 0 ≡ 0
   at_zero a = ap (λ (l : List ℕ). get_or l a 0) z.zero ∙ zeros_at (length queue) a
@@ -61,25 +57,21 @@ module _ (p : Pair) (queue : List ℕ) (z : Zeroed p queue) where
 
 -- ---- a step
 
-module _ (p : Pair) (n : ℕ) (queue : List ℕ) (l : Level) (r : Running p n queue l) (q₂ : List ℕ) where
+module _ {p : Pair} {n : ℕ} {queue : List ℕ} {l : Level} (r : Running p n queue l) where
   fuel : 61 - total l.depths ≡ suc (60 - total l.depths)
   fuel = omega (arith, r.fine.ranged.deepest, r.fine.shallow.t, r.fine.shallow.u, r.fine.shallow.v)
 
-  stepped : (s : Step) → StepIs p l queue q₂ s → go_on (levels (60 - total l.depths) (asked p)) q₂ s ≡ run (asked p)
+  stepped : {q₂ : List ℕ} (s : Step Level) → StepIs p l queue q₂ s → go_on (levels (60 - total l.depths) (asked p)) q₂ s ≡ run (asked p)
   unfolding levels
   stepped s x = sym (x.says (levels (60 - total l.depths) (asked p))) ∙ rw fuel at r.answer
 
-  pub running_ends : (a : Answer) → StepIs p l queue q₂ (Ends a) → a ≡ run (asked p)
-  running_ends a x = stepped (Ends a) x
+  pub running_ends : {q₂ : List ℕ} {a : Answer} → StepIs p l queue q₂ (Break a) → a ≡ run (asked p)
+  running_ends {a = a} x = stepped (Break a) x
 
-  module _ (next : Level) (x : StepIs p l queue q₂ (Goes next)) where
-    pub running_less : 61 - total next.depths < 61 - total l.depths
-    running_less = omega (arith, x.after.total, fuel)
-
-    pub running_goes : length q₂ ≡ n → Running p n q₂ next
-    running_goes len =
-        let e : 61 - total next.depths ≡ 60 - total l.depths = omega (arith, x.after.total) in
-        record { fine = x.after.fine; len = len; answer = rw e (stepped (Goes next) x) }
+  pub running_goes : {q₂ : List ℕ} {next : Level} → StepIs p l queue q₂ (Continue next) → length q₂ ≡ n → Running p n q₂ next
+  running_goes {next = next} x len =
+      let e : 61 - total next.depths ≡ 60 - total l.depths = omega (arith, x.after.total) in
+      record { fine = x.after.fine; len = len; answer = rw e (stepped (Continue next) x) }
 
 -- ---- refusals, and the queue after an answer
 

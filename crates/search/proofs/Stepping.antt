@@ -16,15 +16,14 @@ use Rattle.kernel.specs.declared.Pair.{Pair}
 use Rattle.kernel.specs.Kernel.{asked}
 use Rattle.kernel.specs.Ranges.{Shallow, shallower}
 use Rattle.boxes.specs.Boxes.{box_of}
-use Rattle.queue.specs.declared.Next.TheVariants.{Room, Level as Places}
+use Rattle.std.specs.Prelude.{Some, None}
 use Rattle.queue.specs.All.{all_imp}
 use Rattle.queue.specs.Cleared.{cleared}
 use Rattle.queue.specs.Grid.{splits_grid}
 use Rattle.queue.specs.Level.{OfLevel, Splits, Grows, Grown}
 use Rattle.search.specs.declared.Level.{Level}
-use Rattle.search.specs.declared.Step.{Step}
-use Rattle.search.specs.declared.Step.TheVariants.{Ends, Goes}
-use Rattle.search.specs.Levels.{boxes, CheckIs, Below, After, Splitting, SplitIs, StepIs}
+use Rattle.std.specs.declared.ops.ControlFlow.TheVariants.{Break, Continue}
+use Rattle.search.specs.Levels.{Step, boxes, CheckIs, Below, After, Splitting, SplitIs, StepIs}
 use Rattle.search.proofs.Deepening.{split_deepest, deeper_total, deeper_shallow}
 use Rattle.search.proofs.Tidying.{tidy_front, tidy_grown, tidy_back}
 
@@ -38,7 +37,7 @@ unfolding after_level
 after_some q k go n c [] h = absurd (omega arith)
 after_some q k go n c (box ∷ rest) h = refl
 
-module _ (p : Pair) (l : Level) (old : List ℕ) (x : Splitting p old l) where
+module _ {p : Pair} {l : Level} {old : List ℕ} (x : Splitting p old l) where
   abbrev parameter : Parameter
   parameter = split (asked p) l.depths
 
@@ -67,16 +66,16 @@ module _ (p : Pair) (l : Level) (old : List ℕ) (x : Splitting p old l) where
   after : (go : Below) → after_level (asked p) l.depths go (through l.count l.corner (boxes old l)) ≡ if_room (leb (length new) p.room) l.corner l.count (go depths new)
   after go = after_some (asked p) l.depths go l.count l.corner (boxes old l) some
 
-  module _ (q₂ q₃ : List ℕ) (len : length q₂ ≡ length old) where
-    pub splits_room : Grown p depths parameter l.size old q₂ Room → q₃ ≡ cleared p.room (p.room + p.room) q₂
-        → SplitIs p l old q₃ (Ends (with_count RoomAt l.corner l.count))
+  module _ {q₂ q₃ : List ℕ} (len : length q₂ ≡ length old) where
+    pub splits_room : Grown p depths parameter l.size old q₂ None → q₃ ≡ cleared p.room (p.room + p.room) q₂
+        → SplitIs p l old q₃ (Break (with_count RoomAt l.corner l.count))
     unfolding if_room
     splits_room g e = record {
       says = λ go. after go ∙ rw (lt-leb (length new) p.room g.next.0);
       after = (tt, rw e (tidy_back p.room l.used q₂ old (omega (arith, len, x.fine.twice)) g.kept g.next.1.beyond x.fine.tidy));
     }
 
-    module _ (m used : ℕ) (g : Grown p depths parameter l.size old q₂ (Places m)) (copied : q₃ ≡ take m (drop p.room q₂) ++ drop m q₂)
+    module _ {m used : ℕ} (g : Grown p depths parameter l.size old q₂ (Some m)) (copied : q₃ ≡ take m (drop p.room q₂) ++ drop m q₂)
         (len₃ : length q₃ ≡ length old) (most : used ≡ max l.used m) where
       long : length (take m (drop p.room q₂)) ≡ m
       long = length-take-le m (drop p.room q₂) (rw (length-drop p.room q₂) (omega (arith, len, g.next.fits, x.fine.twice)))
@@ -87,7 +86,7 @@ module _ (p : Pair) (l : Level) (old : List ℕ) (x : Splitting p old l) where
       count : length new ≡ m
       count = sym (ap length g.next.placed) ∙ length-map (take m (drop p.room q₂)) box_of ∙ long
 
-      pub splits_level : SplitIs p l old q₃ (Goes (record { depths = depths; size = m; used = used; corner = l.corner; count = l.count }))
+      pub splits_level : SplitIs p l old q₃ (Continue (record { depths = depths; size = m; used = used; corner = l.corner; count = l.count }))
       unfolding if_room
       splits_level = record {
         says = λ go. after go ∙ rw (le-leb (length new) p.room (omega (arith, count, g.next.fits)), brought, g.next.placed);
@@ -110,22 +109,19 @@ module _ (p : Pair) (l : Level) (old : List ℕ) (x : Splitting p old l) where
 
 -- ---- the level
 
-module _ (p : Pair) (l : Level) (old q₂ : List ℕ) where
-  pub steps_ends : (a : Answer) → CheckIs p l old q₂ (Ends a) → StepIs p l old q₂ (Ends a)
+module _ {p : Pair} {l : Level} {old q₂ : List ℕ} where
+  pub steps_ends : {a : Answer} → CheckIs p l old q₂ (Break a) → StepIs p l old q₂ (Break a)
   unfolding after_level
-  steps_ends a x = record { says = λ go. rw x.says; after = x.left }
+  steps_ends x = record { says = λ go. rw x.says; after = x.left }
 
-  module _ (s : Level) (x : CheckIs p l old q₂ (Goes s)) where
-    pub steps_clear : s.size ≡ 0 → StepIs p l old q₂ (Ends (Clear s.count))
+  module _ {s : Level} (x : CheckIs p l old q₂ (Continue s)) where
+    pub steps_clear : s.size ≡ 0 → StepIs p l old q₂ (Break (Clear s.count))
     unfolding after_level
     steps_clear e = record { says = λ go. rw (x.says, e); after = (tt, rw x.left.used at x.left.fine.tidy) }
 
-    pub splitting : (s.size ≡ 0 → ⊥) → Splitting p q₂ s
-    splitting h = record { fine = x.left.fine; some = omega arith; not_full = rw x.left.depths (x.left.not_full (omega arith)) }
+    same_after : (q₃ : List ℕ) (r : Step Level) → After p s q₃ r → After p l q₃ r
+    same_after q₃ (Break a) t = (t.0, rw x.left.used at t.1)
+    same_after q₃ (Continue next) t = record { fine = t.fine; total = rw x.left.depths at t.total }
 
-    same_after : (q₃ : List ℕ) (r : Step) → After p s q₃ r → After p l q₃ r
-    same_after q₃ (Ends a) t = (t.0, rw x.left.used at t.1)
-    same_after q₃ (Goes next) t = record { fine = t.fine; total = rw x.left.depths at t.total }
-
-    pub steps_splits : (q₃ : List ℕ) (r : Step) → SplitIs p s q₂ q₃ r → StepIs p l old q₃ r
-    steps_splits q₃ r y = record { says = λ go. rw (x.says, ← x.left.depths) (y.says go); after = same_after q₃ r y.after }
+    pub steps_splits : {q₃ : List ℕ} {r : Step Level} → SplitIs p s q₂ q₃ r → StepIs p l old q₃ r
+    steps_splits {q₃} {r} y = record { says = λ go. rw (x.says, ← x.left.depths) (y.says go); after = same_after q₃ r y.after }

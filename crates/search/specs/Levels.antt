@@ -1,5 +1,7 @@
 -- The steps of the written search as the code takes them: one box, one level, the next. A level's boxes are the first words of the queue.
 use Rattle.std.specs.Prelude.{◌≡◌, Bool, true, false, List, map, ℕ, ◌+◌, ◌/◌, ◌≤◌, ◌<◌, length, get_or, take, replicate}
+use Rattle.std.specs.declared.ops.ControlFlow.{ControlFlow}
+use Rattle.std.specs.declared.ops.ControlFlow.TheVariants.{Break, Continue}
 use Rattle.rules.specs.declared.Record.{Record}
 use Rattle.rules.specs.declared.Corner.{Corner}
 use Rattle.rules.specs.declared.Answer.{Answer}
@@ -15,11 +17,7 @@ use Rattle.boxes.specs.Boxes.{box_of}
 use Rattle.queue.specs.All.{All}
 use Rattle.queue.specs.Ascending.{Ascending}
 use Rattle.queue.specs.Level.{OfLevel}
-use Rattle.search.specs.declared.First.{First}
-use Rattle.search.specs.declared.First.TheVariants.{Ends as EndsAt, Recorded}
 use Rattle.search.specs.declared.Level.{Level}
-use Rattle.search.specs.declared.Step.{Step}
-use Rattle.search.specs.declared.Step.TheVariants.{Ends, Goes}
 
 -- no refusal: the search itself refuses nothing
 abbrev pub Answers : Answer → Type 0
@@ -30,6 +28,10 @@ Answers (Room t u v excess count) = Unit
 Answers (Floor t u v excess count) = Unit
 Answers (Refused number) = ⊥
 
+-- the search ends with an answer, or goes on with what was found
+abbrev pub Step : Type 0 → Type 0
+Step T = ControlFlow Answer T
+
 -- ---- one box
 
 pub record OneBox (p : Pair) (k : Depths) (box : Box) : Type 0 where
@@ -38,16 +40,16 @@ pub record OneBox (p : Pair) (k : Depths) (box : Box) : Type 0 where
   pub grid : InGrid k box
 
 -- the rest of a level's check after its first survivor; `on` goes on with the boxes after it
-abbrev pub after_first : Box → First → (Corner → Checked) → Checked
-after_first box (EndsAt a) on = answered a
-after_first box (Recorded c) on = keep box (on c)
+abbrev pub after_first : Box → Step Corner → (Corner → Checked) → Checked
+after_first box (Break a) on = answered a
+after_first box (Continue c) on = keep box (on c)
 
 -- where a first survivor goes on, the depths are not full
-abbrev pub NotFull : Query → Depths → First → Type 0
-NotFull q k (EndsAt a) = Answers a
-NotFull q k (Recorded c) = full q k ≡ false
+abbrev pub NotFull : Query → Depths → Step Corner → Type 0
+NotFull q k (Break a) = Answers a
+NotFull q k (Continue c) = full q k ≡ false
 
-pub record FirstIs (q : Query) (k : Depths) (box : Box) (n : ℕ) (r : First) : Type 0 where
+pub record FirstIs (q : Query) (k : Depths) (box : Box) (n : ℕ) (r : Step Corner) : Type 0 where
   pub says : (on : Corner → Checked) → keep box (first_survivor (near q k box) (full q k) (corner q k box) n on) ≡ after_first box r on
   pub not_full : NotFull q k r
 
@@ -86,9 +88,9 @@ pub record Fine (p : Pair) (queue : List ℕ) (l : Level) : Type 0 where
   pub ascends : Ascending (take l.size queue)
   pub tidy : Tidy p.room l.used queue
 
-abbrev pub checked_as : List ℕ → Step → Checked
-checked_as queue (Ends a) = answered a
-checked_as queue (Goes l) = through l.count l.corner (boxes queue l)
+abbrev pub checked_as : List ℕ → Step Level → Checked
+checked_as queue (Break a) = answered a
+checked_as queue (Continue l) = through l.count l.corner (boxes queue l)
 
 -- the survivors, at the same depths; where there is one the depths are not full
 pub record Survivors (p : Pair) (l : Level) (queue : List ℕ) (s : Level) : Type 0 where
@@ -97,11 +99,11 @@ pub record Survivors (p : Pair) (l : Level) (queue : List ℕ) (s : Level) : Typ
   pub used : s.used ≡ l.used
   pub not_full : 0 < s.size → full (asked p) l.depths ≡ false
 
-abbrev pub Left : Pair → Level → List ℕ → Step → Type 0
-Left p l queue (Ends a) = Answers a × Tidy p.room l.used queue
-Left p l queue (Goes s) = Survivors p l queue s
+abbrev pub Left : Pair → Level → List ℕ → Step Level → Type 0
+Left p l queue (Break a) = Answers a × Tidy p.room l.used queue
+Left p l queue (Continue s) = Survivors p l queue s
 
-pub record CheckIs (p : Pair) (l : Level) (old new : List ℕ) (r : Step) : Type 0 where
+pub record CheckIs (p : Pair) (l : Level) (old new : List ℕ) (r : Step Level) : Type 0 where
   pub says : check (asked p) l.depths (boxes old l) false l.corner l.count ≡ checked_as new r
   pub left : Left p l new r
 
@@ -119,29 +121,29 @@ total k = k.t + k.u + k.v
 abbrev pub Below : Type 0
 Below = Depths → List Box → Corner → ℕ → Answer
 
-abbrev pub go_on : Below → List ℕ → Step → Answer
-go_on go queue (Ends a) = a
-go_on go queue (Goes l) = go l.depths (boxes queue l) l.corner l.count
+abbrev pub go_on : Below → List ℕ → Step Level → Answer
+go_on go queue (Break a) = a
+go_on go queue (Continue l) = go l.depths (boxes queue l) l.corner l.count
 
 -- one deeper
 pub record Deeper (p : Pair) (l : Level) (queue : List ℕ) (next : Level) : Type 0 where
   pub fine : Fine p queue next
   pub total : total next.depths ≡ total l.depths + 1
 
-abbrev pub After : Pair → Level → List ℕ → Step → Type 0
-After p l queue (Ends a) = Answers a × Tidy p.room l.used queue
-After p l queue (Goes next) = Deeper p l queue next
+abbrev pub After : Pair → Level → List ℕ → Step Level → Type 0
+After p l queue (Break a) = Answers a × Tidy p.room l.used queue
+After p l queue (Continue next) = Deeper p l queue next
 
 pub record Splitting (p : Pair) (queue : List ℕ) (l : Level) : Type 0 where
   pub fine : Fine p queue l
   pub some : 0 < l.size
   pub not_full : full (asked p) l.depths ≡ false
 
-pub record SplitIs (p : Pair) (l : Level) (old new : List ℕ) (r : Step) : Type 0 where
+pub record SplitIs (p : Pair) (l : Level) (old new : List ℕ) (r : Step Level) : Type 0 where
   pub says : (go : Below) → after_level (asked p) l.depths go (through l.count l.corner (boxes old l)) ≡ go_on go new r
   pub after : After p l new r
 
-pub record StepIs (p : Pair) (l : Level) (old new : List ℕ) (r : Step) : Type 0 where
+pub record StepIs (p : Pair) (l : Level) (old new : List ℕ) (r : Step Level) : Type 0 where
   pub says : (go : Below) → after_level (asked p) l.depths go (check (asked p) l.depths (boxes old l) false l.corner l.count) ≡ go_on go new r
   pub after : After p l new r
 

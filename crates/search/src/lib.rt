@@ -1,7 +1,7 @@
 // The search of one query: the levels in the lent queue, from the whole cube of parameters down.
 #![tactic(auto)]
 
-ghost use Rattle.std.specs.Prelude.{◌≡◌, ◌&&◌, ◌+◌, ◌≤◌, max, eqb, length, replicate};
+ghost use Rattle.std.specs.Prelude.{◌≡◌, ◌&&◌, ◌+◌, ◌≤◌, eqb, length, replicate};
 ghost use Rattle.rules.specs.Answers.{queue_after};
 ghost use Rattle.rules.specs.Search.{deeper, run, search};
 ghost use Rattle.kernel.specs.Kernel.{asked};
@@ -12,15 +12,12 @@ ghost use Rattle.search.specs.Levels.{Answers, OneBox, Opens, FirstIs, Affords, 
 use boxes::unpack;
 use gap::slab::{Slab, renewed, slab_at, survives_in};
 use kernel::Pair;
-use queue::{Next, clear, clear_part, copy_down, grow};
+use queue::{clear, clear_part, copy_down, grow};
 use rules::{Answer, Corner, Parameter, Record, Three};
+use std::ops::ControlFlow::{self, Break, Continue};
 
-// What a level's first survivor comes to: the end of the search, or its corner is recorded.
-#[derive(Clone, Copy)]
-pub enum First {
-    Ends(Answer),
-    Recorded(Corner),
-}
+// The search ends with an answer, or goes on with what was found.
+type Step<T> = ControlFlow<Answer, T>;
 
 // A level: its boxes are the first words of the queue; `used` is the largest size so far.
 #[derive(Clone, Copy)]
@@ -32,13 +29,6 @@ pub struct Level {
     pub count: u32,
 }
 
-// The search ends, or goes on with a level.
-#[derive(Clone, Copy)]
-pub enum Step {
-    Ends(Answer),
-    Goes(Level),
-}
-
 fn is_full(deepest: u64, k: Three) -> bool
     ensures { result ≡ (eqb k.t deepest && eqb k.u deepest && eqb k.v deepest) }
 {
@@ -46,13 +36,13 @@ fn is_full(deepest: u64, k: Three) -> bool
 }
 
 // A level's first survivor: MET, or FLOOR, or its corner is recorded.
-fn first_survivor(p: Pair, k: Three, b: Three, count: u32) -> First
+fn first_survivor(p: Pair, k: Three, b: Three, count: u32) -> Step<Corner>
     requires { OneBox p k b }
     ensures { FirstIs (asked p) k b count result }
 {
     let c = gap::corner(p, k, b);
     if gap::near(p, k, b, c.excess) {
-        return First::Ends(Answer::Met {
+        return Break(Answer::Met {
             t: c.t,
             u: c.u,
             v: c.v,
@@ -61,7 +51,7 @@ fn first_survivor(p: Pair, k: Three, b: Three, count: u32) -> First
         });
     }
     if is_full(p.deepest, k) {
-        return First::Ends(Answer::Floor {
+        return Break(Answer::Floor {
             t: c.t,
             u: c.u,
             v: c.v,
@@ -69,7 +59,7 @@ fn first_survivor(p: Pair, k: Three, b: Three, count: u32) -> First
             count,
         });
     }
-    First::Recorded(c)
+    Continue(c)
 }
 
 // What the boxes of a level's first t index share.
@@ -89,39 +79,33 @@ fn within_budget(budget: u32, count: u32, n: usize) -> usize
     requires { count ≤ budget }
     ensures { Affords budget count n result }
 {
-    let rest = (budget - count) as usize;
-    if n <= rest { n } else { rest }
+    n.min((budget - count) as usize)
 }
 
 // Checks a level's boxes in order, and keeps the survivors at the front.
-fn check_level(p: Pair, queue: &mut [u64], l: Level) -> Step
+fn check_level(p: Pair, queue: &mut [u64], l: Level) -> Step<Level>
     requires { Fine p queue.old l }
     ensures { CheckIs p l queue.old queue.new result }
 {
     let k = l.depths;
     let last = within_budget(p.budget, l.count, l.size);
     let mut corner = l.corner;
-    let mut i = 0;
     let mut m = 0;
     let mut slab = first_slab(p, k, queue, l.size);
-    while i < last {
+    for i in 0..last {
         let w = queue[i];
         let b = unpack(w);
         slab = renewed(p, k, b.t, slab);
         let alive = survives_in(p, k, slab, b);
         // written in any case, which is faster than asking; a box that is lost is written over
         queue[m] = w;
-        i += 1;
         if alive & (m == 0) {
-            match first_survivor(p, k, b, l.count + i as u32) {
-                First::Ends(a) => return Step::Ends(a),
-                First::Recorded(c) => corner = c,
-            }
+            corner = first_survivor(p, k, b, l.count + i as u32 + 1)?;
         }
         m = if alive { m + 1 } else { m };
     }
     if last < l.size {
-        return Step::Ends(Answer::Spent {
+        return Break(Answer::Spent {
             t: corner.t,
             u: corner.u,
             v: corner.v,
@@ -129,7 +113,7 @@ fn check_level(p: Pair, queue: &mut [u64], l: Level) -> Step
             count: p.budget,
         });
     }
-    Step::Goes(Level {
+    Continue(Level {
         depths: k,
         size: m,
         used: l.used,
@@ -144,32 +128,14 @@ pub fn deepen(split: Parameter, k: Three) -> Three
     ensures { result ≡ deeper split k }
 {
     match split {
-        Parameter::InT => Three {
-            t: k.t + 1,
-            u: k.u,
-            v: k.v,
-        },
-        Parameter::InU => Three {
-            t: k.t,
-            u: k.u + 1,
-            v: k.v,
-        },
-        Parameter::InV => Three {
-            t: k.t,
-            u: k.u,
-            v: k.v + 1,
-        },
+        Parameter::InT => Three { t: k.t + 1, ..k },
+        Parameter::InU => Three { u: k.u + 1, ..k },
+        Parameter::InV => Three { v: k.v + 1, ..k },
     }
 }
 
-fn larger(a: usize, b: usize) -> usize
-    ensures { result ≡ max a b }
-{
-    if a <= b { b } else { a }
-}
-
 // The survivors of a level are split, and the next level is brought to the front, or there is no room for it.
-fn next_level(p: Pair, queue: &mut [u64], l: Level) -> Step
+fn next_level(p: Pair, queue: &mut [u64], l: Level) -> Step<Level>
     requires { Splitting p queue.old l }
     ensures { SplitIs p l queue.old queue.new result }
 {
@@ -179,10 +145,10 @@ fn next_level(p: Pair, queue: &mut [u64], l: Level) -> Step
     let split = gap::split(p, k);
     let depths = deepen(split, k);
     match grow(p, depths, split, queue, l.size) {
-        Next::Room => {
+        None => {
             let end = h + h;
             clear_part(queue, h, end);
-            Step::Ends(Answer::Room {
+            Break(Answer::Room {
                 t: c.t,
                 u: c.u,
                 v: c.v,
@@ -190,12 +156,12 @@ fn next_level(p: Pair, queue: &mut [u64], l: Level) -> Step
                 count: l.count,
             })
         }
-        Next::Level(size) => {
+        Some(size) => {
             copy_down(queue, h, size);
-            Step::Goes(Level {
+            Continue(Level {
                 depths,
                 size,
-                used: larger(l.used, size),
+                used: l.used.max(size),
                 corner: c,
                 count: l.count,
             })
@@ -204,19 +170,15 @@ fn next_level(p: Pair, queue: &mut [u64], l: Level) -> Step
 }
 
 // One level: its boxes are checked, and its survivors, if there are any, are split.
-fn one_level(p: Pair, queue: &mut [u64], l: Level) -> Step
+fn one_level(p: Pair, queue: &mut [u64], l: Level) -> Step<Level>
     requires { Fine p queue.old l }
     ensures { StepIs p l queue.old queue.new result }
 {
-    match check_level(p, queue, l) {
-        Step::Ends(a) => Step::Ends(a),
-        Step::Goes(survivors) => {
-            if survivors.size == 0 {
-                return Step::Ends(Answer::Clear(survivors.count));
-            }
-            next_level(p, queue, survivors)
-        }
+    let survivors = check_level(p, queue, l)?;
+    if survivors.size == 0 {
+        return Break(Answer::Clear(survivors.count));
     }
+    next_level(p, queue, survivors)
 }
 
 // Clears the words that the levels used.
@@ -251,11 +213,11 @@ pub fn search_zeroed(p: Pair, queue: &mut [u64]) -> Answer
     };
     loop {
         match one_level(p, queue, l) {
-            Step::Ends(a) => {
+            Break(a) => {
                 clear_used(queue, p.room, l.used);
                 return a;
             }
-            Step::Goes(next) => l = next,
+            Continue(next) => l = next,
         }
     }
 }
@@ -299,9 +261,8 @@ pub fn search(r: Record, queue: &mut [u64]) -> Answer
     ensures value { result ≡ search r (length queue.old) }
     ensures queue_after { queue.new ≡ queue_after (search r (length queue.old)) queue.old }
 {
-    let number = refusals::search_refusal(r, queue.len());
-    if number != 0 {
-        return Answer::Refused(number);
+    if let Err(refusal) = refusals::check_search(r, queue.len()) {
+        return Answer::Refused(refusal.number());
     }
     clear(queue);
     search_accepted(r, queue)

@@ -1,6 +1,6 @@
 -- Every answer of a file, one by one as the loops go: whether all before can be read, and the numbers told so far. Assumes nothing.
-use Prim.Native.Nat.{ℕ, zero, suc, ◌+◌, ◌-◌, ◌*◌, ◌≤◌, ◌<◌}
-use mathlib.Core.Path.{◌≡◌, refl, sym, ap, ◌∙◌, subst}
+use Prim.Native.Nat.{ℕ, zero, suc, ◌+◌, ◌*◌, ◌≤◌, ◌<◌}
+use mathlib.Core.Path.{◌≡◌, refl, sym, ap, ◌∙◌}
 use mathlib.Core.Bool.{Bool, ◌&&◌, and-true, and_assoc}
 use mathlib.Core.List.{List, ◌++◌}
 use native.Mathlib.Omega.{arith}
@@ -15,27 +15,21 @@ use Rattle.queries.specs.Layout.{joined_more, read_more}
 use Rattle.answers.specs.Eight.{eight}
 use Rattle.shift_log.specs.Calls.{are_taken, entries_told}
 
--- ---- so many are left; `all`: those before can be read
-pub record Looked (s : List ℕ) (total : Bool) (at left : ℕ) (all : Bool) : Type 0 where
-  pub fits : at + 32 * left ≤ length s
-  pub rest : (all && are_taken s at left) ≡ total
-
-pub looked_more : (left : ℕ) {s : List ℕ} {total : Bool} {at : ℕ} {all one : Bool} → Looked s total at left all → 0 < left → one ≡ eqb (word_refusal (told_at s at)) 0
-    → Looked s total (at + 32) (left - 1) (all && one)
+-- ---- whether the first can be read: one more at the end
+taken_more : (s : List ℕ) (at n : ℕ) → are_taken s at (suc n) ≡ (are_taken s at n && eqb (word_refusal (told_at s (at + 32 * n))) 0)
 unfolding are_taken
-looked_more zero w h e = absurd (omega arith)
-looked_more (suc m) {s} {total} {at} {all} {one} w h e =
-    let n : m ≡ suc m - 1 = omega arith in
-    subst (λ (k : ℕ). Looked s total (at + 32) k (all && one)) n
-    (record {
-      fits = omega (arith, w.fits);
-      rest = ap (λ (b : Bool). all && b && are_taken s (at + 32) m) e ∙ and_assoc all (eqb (word_refusal (told_at s at)) 0) (are_taken s (at + 32) m) ∙ w.rest;
-    })
+taken_more s at zero =
+    let p : at ≡ at + 32 * 0 = omega arith in
+    and-true (eqb (word_refusal (told_at s at)) 0) ∙ (λ i. eqb (word_refusal (told_at s (p i))) 0)
+taken_more s at (suc n) =
+    let p : at + 32 + 32 * n ≡ at + 32 * suc n = omega arith in
+    let here = eqb (word_refusal (told_at s at)) 0 in
+    ap (λ (b : Bool). here && b) (taken_more s (at + 32) n)
+    ∙ sym (and_assoc here (are_taken s (at + 32) n) (eqb (word_refusal (told_at s (at + 32 + 32 * n))) 0))
+    ∙ (λ i. here && are_taken s (at + 32) n && eqb (word_refusal (told_at s (p i))) 0)
 
-pub looked_all : (left : ℕ) {s : List ℕ} {total : Bool} {at : ℕ} {all : Bool} → Looked s total at left all → left ≡ 0 → all ≡ total
-unfolding are_taken
-looked_all zero {all = all} w h = sym (and-true all) ∙ w.rest
-looked_all (suc m) w h = absurd (omega arith)
+pub looked_more : (s : List ℕ) (at n : ℕ) {all one : Bool} → all ≡ are_taken s at n → one ≡ eqb (word_refusal (told_at s (at + 32 * n))) 0 → (all && one) ≡ are_taken s at (n + 1)
+looked_more s at n e is = (λ i. e i && is i) ∙ sym (taken_more s at n) ∙ ap (λ (k : ℕ). are_taken s at k) (sym (add-one n))
 
 -- ---- i of them are told
 abbrev numbers : Entry → List ℕ

@@ -1,12 +1,12 @@
 -- Ids compared one by one, as the loop does, and the number of a match. Assumes nothing.
-use Prim.Native.Nat.{ℕ, zero, suc, ◌+◌, ◌-◌, ◌*◌, ◌≤◌, ◌<◌}
-use mathlib.Core.Path.{◌≡◌, sym, ap, ◌∙◌, subst}
+use Prim.Native.Nat.{ℕ, zero, suc, ◌+◌, ◌*◌, ◌≤◌}
+use mathlib.Core.Path.{◌≡◌, sym, ap, ◌∙◌}
 use mathlib.Core.Bool.{Bool, true, false, cond, not, ◌&&◌, and-true, and_assoc}
 use mathlib.Core.List.{List, [], ◌∷◌}
 use native.Mathlib.Omega.{arith}
+use native.Mathlib.Numerals.{add-one}
 use borrow.Author.Tests.{eq-eqb, ne_eqb}
 use lib.Dec.{eqb}
-use lib.ListN.{length}
 use Rattle.rules.specs.Refusals.{Case, first}
 use Rattle.rules.specs.QueryFile.{word, size_by, record_size, edition_of, file_form, record_count, place_in, place_of, open_refusal}
 use Rattle.rules.specs.AnswerFile.{answer_form, same_ids, match_refusal}
@@ -14,39 +14,25 @@ use Rattle.queries.specs.Sizes.{size_zero, size_suc}
 use Rattle.queries.specs.Opening.{Holds, refused_first, opens_first}
 use Rattle.shift_log.specs.Calls.{match_rest}
 
--- so many are left; `all`: those before agree
-pub record Left (size : ℕ) (s log : List ℕ) (total : Bool) (at by left : ℕ) (all : Bool) : Type 0 where
-  pub fits : at + size * left ≤ length s
-  pub answers : by + 32 * left ≤ length log
-  pub rest : (all && same_ids size s (at + 4) log by left) ≡ total
-
-pub left_there : (left : ℕ) {size : ℕ} {s log : List ℕ} {total : Bool} {at by : ℕ} {all : Bool} → Left size s log total at by left all → 0 < left → (at + size ≤ length s) × (by + 32 ≤ length log)
-left_there zero w h = absurd (omega arith)
-left_there (suc m) {size} w h = (omega (arith, w.fits, size_suc size m), omega (arith, w.answers))
-
-pub left_more : (left : ℕ) {size : ℕ} {s log : List ℕ} {total : Bool} {at by : ℕ} {all : Bool} → Left size s log total at by left all → 0 < left → (x y : ℕ) → x ≡ word s (at + 4) → y ≡ word log by
-    → Left size s log total (at + size) (by + 32) (left - 1) (all && eqb x y)
+-- one id more at the end
+same_more : (size : ℕ) (s : List ℕ) (at : ℕ) (log : List ℕ) (to n : ℕ) → same_ids size s at log to (suc n) ≡ (same_ids size s at log to n && eqb (word s (at + size * n)) (word log (to + 32 * n)))
 unfolding same_ids
-left_more zero w h x y ex ey = absurd (omega arith)
-left_more (suc m) {size} {s} {log} {total} {at} {by} {all} w h x y ex ey =
-    let e : m ≡ suc m - 1 = omega arith in
-    let p : at + size + 4 ≡ at + 4 + size = omega arith in
-    let t = same_ids size s (at + 4 + size) log (by + 32) m in
-    subst (λ (k : ℕ). Left size s log total (at + size) (by + 32) k (all && eqb x y)) e
-    (record {
-      fits = omega (arith, w.fits, size_suc size m);
-      answers = omega (arith, w.answers);
-      rest =
-          ap (λ (k : ℕ). all && eqb x y && same_ids size s k log (by + 32) m) p
-          ∙ (λ i. all && eqb (ex i) (ey i) && t)
-          ∙ and_assoc all (eqb (word s (at + 4)) (word log by)) t
-          ∙ w.rest;
-    })
+same_more size s at log to zero =
+    let p : at ≡ at + size * 0 = omega (arith, size_zero size) in
+    let q : to ≡ to + 32 * 0 = omega arith in
+    and-true (eqb (word s at) (word log to)) ∙ (λ i. eqb (word s (p i)) (word log (q i)))
+same_more size s at log to (suc n) =
+    let p : at + size + size * n ≡ at + size * suc n = omega (arith, size_suc size n) in
+    let q : to + 32 + 32 * n ≡ to + 32 * suc n = omega arith in
+    let before = same_ids size s (at + size) log (to + 32) n in
+    ap (λ (b : Bool). eqb (word s at) (word log to) && b) (same_more size s (at + size) log (to + 32) n)
+    ∙ sym (and_assoc (eqb (word s at) (word log to)) before (eqb (word s (at + size + size * n)) (word log (to + 32 + 32 * n))))
+    ∙ (λ i. eqb (word s at) (word log to) && before && eqb (word s (p i)) (word log (q i)))
 
-pub left_none : (left : ℕ) {size : ℕ} {s log : List ℕ} {total : Bool} {at by : ℕ} {all : Bool} → Left size s log total at by left all → left ≡ 0 → all ≡ total
-unfolding same_ids
-left_none zero {all = all} w h = sym (and-true all) ∙ w.rest
-left_none (suc m) w h = absurd (omega arith)
+pub one_more : (size : ℕ) (s : List ℕ) (at : ℕ) (log : List ℕ) (to n : ℕ) {x y : ℕ} {all : Bool} → all ≡ same_ids size s at log to n → x ≡ word s (at + size * n) → y ≡ word log (to + 32 * n)
+    → (all && eqb x y) ≡ same_ids size s at log to (n + 1)
+one_more size s at log to n e ex ey =
+    (λ i. e i && eqb (ex i) (ey i)) ∙ sym (same_more size s at log to n) ∙ ap (λ (k : ℕ). same_ids size s at log to k) (sym (add-one n))
 
 -- ---- the number
 module _ (size : ℕ) (s : List ℕ) (place n : ℕ) (log : List ℕ) where
@@ -62,16 +48,16 @@ module _ (size : ℕ) (s : List ℕ) (place n : ℕ) (log : List ℕ) where
   unfolding match_rest first row
   rest_is agrees e f = opens_first answer_form log (row (eqb n (record_count log) && same_ids size s (place + 4) log (place_in answer_form log 0) n)) e ∙ ap (λ (b : Bool). cond (not b) 17 0) f
 
-  pub rest_counts : open_refusal answer_form log ≡ 0 → (n ≡ record_count log → ⊥) → 17 ≡ match_rest size s place n log
-  rest_counts e h = sym (rest_is false e (ap (λ (b : Bool). b && same_ids size s (place + 4) log (place_in answer_form log 0) n) (ne_eqb n (record_count log) h)))
+  module _ {edition to m : ℕ} (h : Holds answer_form log edition to m) where
+    pub rest_counts : (n ≡ m → ⊥) → 17 ≡ match_rest size s place n log
+    rest_counts k = sym (rest_is false h.none (ap (λ (b : Bool). b && same_ids size s (place + 4) log (place_in answer_form log 0) n) (ne_eqb n (record_count log) (λ e. k (e ∙ sym h.counts)))))
 
-  pub rest_ids : {to : ℕ} (same : Bool) → open_refusal answer_form log ≡ 0 → n ≡ record_count log → to ≡ place_in answer_form log 0 → same ≡ same_ids size s (place + 4) log to n
-      → cond (not same) 17 0 ≡ match_rest size s place n log
-  rest_ids {to} same e c p f =
-      sym (rest_is same e
-      (ap (λ (b : Bool). b && same_ids size s (place + 4) log (place_in answer_form log 0) n) (eq-eqb n (record_count log) c)
-      ∙ ap (λ (k : ℕ). same_ids size s (place + 4) log k n) (sym p)
-      ∙ sym f))
+    pub rest_ids : {size' : ℕ} {same : Bool} → n ≡ m → size' ≡ size → same ≡ same_ids size' s (place + 4) log to m → cond (not same) 17 0 ≡ match_rest size s place n log
+    rest_ids {size'} {same} e z f =
+        let p : to ≡ place_in answer_form log 0 = omega (arith, h.starts) in
+        sym (rest_is same h.none
+        (ap (λ (b : Bool). b && same_ids size s (place + 4) log (place_in answer_form log 0) n) (eq-eqb n (record_count log) (e ∙ h.counts))
+        ∙ sym (f ∙ (λ i. same_ids (z i) s (place + 4) log (p i) (sym e i)))))
 
 -- ---- of a query file that opens
 pub eight_least : (wide : Bool) → 8 ≤ size_by wide

@@ -1,49 +1,68 @@
 -- The numbers that come back: 16's table with 14 before or behind it, and the file's own refusals before both. Assumes nothing.
-use Prim.Native.Nat.{ℕ, zero, suc, ◌-◌, ◌≤◌, ◌<◌}
+use Prim.Native.Nat.{ℕ, ◌≤◌, ◌<◌}
 use mathlib.Core.Path.{◌≡◌, refl, sym, ◌∙◌, subst}
-use mathlib.Core.Bool.{Bool, true, false, cond, ◌&&◌}
+use mathlib.Core.Bool.{Bool, true, false, cond, not, ◌&&◌, ◌||◌}
 use mathlib.Core.List.{List, [], ◌∷◌, ◌++◌}
-use native.Mathlib.Omega.{arith}
-use borrow.Author.Tests.{lt-ltb, le-ltb, ltb-false}
-use lib.Dec.{T, ltb}
+use borrow.Author.Tests.{lt-ltb, le-ltb, ne_eqb}
+use lib.Dec.{ltb, eqb}
 use lib.ListN.{length}
+use Rattle.std.specs.Prelude.{Result, Ok, Err}
+use Rattle.std.specs.Result.{is_ok}
+use Rattle.rules.specs.declared.Refusal.{Refusal}
 use Rattle.rules.specs.declared.Told.{Told}
-use Rattle.rules.specs.Refusals.{Case, first}
-use Rattle.rules.specs.QueryFile.{record_count, place_in, open_refusal, index}
-use Rattle.rules.specs.AnswerFile.{told_at, answer_form, word_cases}
-use Rattle.refusals.specs.Cases.{first_or, first_append, positive, numbered}
+use Rattle.rules.specs.Answers.{has_moment}
+use Rattle.rules.specs.Refusals.{Case, number_of, refusal_in, first}
+use Rattle.rules.specs.QueryFile.{record_count, place_in, open_refusal, index, space}
+use Rattle.rules.specs.AnswerFile.{told_at, answer_form, is_refused, no_moment, word_cases, word_refusal}
+use Rattle.refusals.specs.Cases.{refused_before, refused_behind}
+use Rattle.refusals.specs.Numbered.{not_zero}
 use Rattle.queries.specs.Opening.{refused_first, opens_first}
 use Rattle.answers.specs.Walk.{short}
 use Rattle.shift_log.specs.Laws.{skip}
 use Rattle.shift_log.specs.Calls.{told_in, writes_refusal, reads_refusal, Reads, ReadsAt}
 
--- a row behind 16's table
-pub with_row : (a : Told) (number : ℕ) (due : Bool) → first_or (word_cases a) (cond due number 0) ≡ first (word_cases a ++ (record { number = number; due = due } ∷ []))
-unfolding first
-with_row a number due = sym (first_append (word_cases a) (record { number = number; due = due } ∷ []))
+-- a result is no refusal where its number is 0
+pub ok_is : {T : Type 0} (r : Result T Refusal) → is_ok r ≡ eqb (refusal_in r) 0
+ok_is (Ok x) = refl
+ok_is (Err r) = sym (ne_eqb (number_of r) 0 (not_zero r))
 
--- where none is due, what stands behind them is none either
-zero_last : (cs : List Case) (rest : ℕ) → T (numbered cs) → first_or cs rest ≡ 0 → rest ≡ 0
-unfolding first_or
-zero_last [] rest t e = e
-zero_last (c ∷ cs) rest t e = by_case c.due c.number (numbered cs) t (zero_last cs rest) e
-  where
-    by_case : (due : Bool) (n : ℕ) (b : Bool) → T (positive n && b) → (T b → first_or cs rest ≡ 0 → rest ≡ 0) → cond due n (first_or cs rest) ≡ 0 → rest ≡ 0
-    by_case true zero b t ih e = absurd t
-    by_case true (suc n) b t ih e = let z : suc n ≡ 0 = e in absurd (omega arith)
-    by_case false zero b t ih e = absurd t
-    by_case false (suc n) b t ih e = ih t e
+-- a row of two tests is two rows
+either : (a b : Bool) (n rest : ℕ) → cond (a || b) n rest ≡ cond a n (cond b n rest)
+either true b n rest = refl
+either false b n rest = refl
 
-fourteen_not : (m n : ℕ) → ◌≡◌ {A = ℕ} (cond (ltb m n) 14 0) 0 → n ≤ m
-fourteen_not m n e = go (ltb m n) refl e
-  where
-    go : (due : Bool) → ltb m n ≡ due → ◌≡◌ {A = ℕ} (cond due 14 0) 0 → n ≤ m
-    go true f e = absurd (omega arith)
-    go false f e = ltb-false m n f
+-- 16's rows as one
+pub any_row : (a : Told) {wrong : Bool}
+    → (ltb 5 a.word
+    || (ltb 1_048_575 a.t || ltb 1_048_575 a.u || ltb 1_048_575 a.v)
+    || not (is_refused a) && (eqb a.count 0 || ltb 1_000_000 a.count)
+    || is_refused a && eqb a.number 0
+    || not (has_moment a) && not (no_moment a)
+    || is_refused a && not (eqb a.count 0)
+    || not (is_refused a) && not (eqb a.number 0)) ≡ wrong
+    → cond wrong 16 0 ≡ word_refusal a
+unfolding word_refusal first
+any_row a e = rw (← e) (simp either)
 
--- so there is room
-pub room_left : (a : Told) {k : ℕ} (m n : ℕ) → k ≡ first_or (word_cases a) (cond (ltb m n) 14 0) → k ≡ 0 → n ≤ m
-room_left a m n e z = fourteen_not m n (zero_last (word_cases a) (cond (ltb m n) 14 0) tt (sym e ∙ z))
+-- 14, where the last row stands alone
+module _ (m n : ℕ) where
+  pub too_few : m < n → 14 ≡ first (record { number = 14; due = ltb m n } ∷ [])
+  unfolding first
+  too_few h = rw (lt-ltb m n h)
+
+  pub enough : n ≤ m → 0 ≡ first (record { number = 14; due = ltb m n } ∷ [])
+  unfolding first
+  enough h = rw (le-ltb m n h)
+
+-- 16's table before a row
+module _ (a : Told) (row : List Case) where
+  pub wrong_first : (r : Refusal) → number_of r ≡ word_refusal a → number_of r ≡ first (word_cases a ++ row)
+  unfolding word_refusal
+  wrong_first r e = refused_before r (word_cases a) row tt e
+
+  pub right_then : 0 ≡ word_refusal a → first row ≡ first (word_cases a ++ row)
+  unfolding word_refusal
+  right_then e = refused_behind (word_cases a) row tt e
 
 -- ---- writing
 module _ (out : List ℕ) (at : ℕ) (numbers : List ℕ) where
@@ -51,9 +70,9 @@ module _ (out : List ℕ) (at : ℕ) (numbers : List ℕ) where
   unfolding writes_refusal first
   writes_short h = rw (lt-ltb (length numbers) 8 h)
 
-  pub writes_is : (k : ℕ) → 8 ≤ length numbers → k ≡ first_or (word_cases (told_in numbers)) (cond (ltb (length out - at) 32) 14 0) → k ≡ writes_refusal out at numbers
+  pub writes_is : 8 ≤ length numbers → first (word_cases (told_in numbers) ++ (space out at 32 ∷ [])) ≡ writes_refusal out at numbers
   unfolding writes_refusal first
-  writes_is k h e = rw (le-ltb (length numbers) 8 h) (e ∙ with_row (told_in numbers) 14 (ltb (length out - at) 32))
+  writes_is h = rw (le-ltb (length numbers) 8 h)
 
 -- ---- reading
 module _ (s : List ℕ) (n : ℕ) (out : List ℕ) where

@@ -11,10 +11,9 @@ use Rattle.std.proofs.Common.{sym, ◌∙◌, arith, lt-ltb, le-ltb}
 use Rattle.std.proofs.Math.Path.{ap}
 use Rattle.std.proofs.Math.ListN.{length, get_or}
 use Rattle.rules.specs.declared.Answer.{Answer}
-use Rattle.rules.specs.declared.Opened.TheVariants.{Records}
 use Rattle.rules.specs.Answers.{told}
 use Rattle.rules.specs.Refusals.{Case, first}
-use Rattle.rules.specs.QueryFile.{read_from, opened, record_count, place_in, index, put, put_unless}
+use Rattle.rules.specs.QueryFile.{read_from, records, opened, record_count, place_in, index, put, put_unless}
 use Rattle.rules.specs.AnswerFile.{Entry, told_at, entry_at, entry_bytes, answer_form, answer_bytes, word_cases}
 use Rattle.little.specs.Word.{Bytes}
 use Rattle.queries.specs.Layout.{All, read_back, write_back}
@@ -36,13 +35,13 @@ pub read_written : (s : List ℕ) (at : ℕ) → Bytes s → at + 32 ≤ length 
 read_written = write_back answer_layout
 
 -- ---- whole files
-pub file_opens : (free : List ℕ) (es : List Entry) → All Held es → length es ≤ 4096 → opened answer_form (answer_bytes free es) ≡ Records 1 (length free) (length es)
+pub file_opens : (free : List ℕ) (es : List Entry) → All Held es → length es ≤ 4096 → opened answer_form (answer_bytes free es) ≡ records 1 (length free) (length es)
 file_opens = formed_opens answer_layout
 
 pub file_read : (free : List ℕ) (es : List Entry) → All Held es → read_from entry_at 32 (answer_bytes free es) (length free) (length es) ≡ es
 file_read = formed_read answer_layout
 
-pub file_same : (s : List ℕ) (edition place n : ℕ) → Bytes s → opened answer_form s ≡ Records edition place n → answer_bytes (take place s) (read_from entry_at 32 s place n) ≡ s
+pub file_same : (s : List ℕ) (edition place n : ℕ) → Bytes s → opened answer_form s ≡ records edition place n → answer_bytes (take place s) (read_from entry_at 32 s place n) ≡ s
 file_same = formed_same answer_layout
 
 pub no_two : (free free' : List ℕ) (es es' : List Entry) → All Held es → All Held es' → length es ≤ 4096 → length es' ≤ 4096 → answer_bytes free es ≡ answer_bytes free' es' → (free ≡ free') × (es ≡ es')
@@ -85,7 +84,7 @@ skip number met cs e = rw e
 
 module _ (free : List ℕ) (es : List Entry) (all : All Held es) (few : length es ≤ 4096) where
   holds : Holds answer_form (answer_bytes free es) 1 (length free) (length es)
-  holds = opened_records answer_form (answer_bytes free es) 1 (length free) (length es) (file_opens free es all few)
+  holds = opened_records answer_form (answer_bytes free es) (record { edition = 1; first = length free; count = length es }) (file_opens free es all few)
 
   module _ (none : Entry) (k : ℕ) (out out' : List ℕ) (number : ℕ) (r : Reads (answer_bytes free es) k out out' number) where
     pub reads_file : k < length es → let e : Entry = get_or es k none in Puts (first (word_cases e.told ++ (short out 8 ∷ []))) (eight e.id e.told) out 0 out' number

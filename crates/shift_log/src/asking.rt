@@ -6,7 +6,7 @@ ghost use Rattle.rules.specs.Search.{search};
 ghost use Rattle.answers.specs.Asking.{Asks};
 
 use queries::record::decode;
-use refusals::search_refusal;
+use refusals::check_search;
 use rules::Answer;
 use search::{clear_unless, search_levels};
 
@@ -16,9 +16,8 @@ pub fn search_at(s: &[u8], edition: u8, at: usize, queue: &mut [u64], clean: boo
     ensures queue_after { queue.new ≡ queue_after (search (record_at edition s.now at) (length queue.old)) queue.old }
 {
     let r = decode(s, at, edition);
-    let number = search_refusal(r, queue.len());
-    if number != 0 {
-        return Answer::Refused(number);
+    if let Err(refusal) = check_search(r, queue.len()) {
+        return Answer::Refused(refusal.number());
     }
     clear_unless(queue, clean);
     search_levels(r, queue)

@@ -11,9 +11,8 @@ use rules::{Form, Told};
 pub fn answer_form() -> Form
     ensures { result ≡ answer_form }
 {
-    let mark = [65u8, 69, 78, 68];
     Form {
-        mark,
+        mark: *b"AEND",
         edition: 1,
         size: 32,
     }

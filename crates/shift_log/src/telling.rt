@@ -5,7 +5,7 @@ ghost use Rattle.rules.specs.AnswerFile.{told_at, word_refusal};
 ghost use Rattle.shift_log.specs.Calls.{are_taken, entries_told};
 
 use super::entry::decode;
-use super::word::word_refusal;
+use super::word::check_word;
 use answers::write_eight;
 use little::read_u32;
 
@@ -14,7 +14,7 @@ fn is_taken(log: &[u8], at: usize) -> bool
     requires { at + 32 ≤ length log.now }
     ensures { result ≡ eqb (word_refusal (told_at log.now at)) 0 }
 {
-    word_refusal(decode(log, at), 0) == 0
+    check_word(decode(log, at)).is_ok()
 }
 
 // Whether it refuses none of so many, the first at a place.
@@ -22,13 +22,9 @@ pub fn are_taken(log: &[u8], first: usize, count: usize) -> bool
     requires { first + 32 * count ≤ length log.now }
     ensures { result ≡ are_taken log.now first count }
 {
-    let mut at = first;
-    let mut left = count;
     let mut all = true;
-    while 0 < left {
-        all = all & is_taken(log, at);
-        at += 32;
-        left -= 1;
+    for i in 0..count {
+        all &= is_taken(log, first + 32 * i);
     }
     all
 }
@@ -38,11 +34,8 @@ pub fn tell_entries(log: &[u8], first: usize, count: usize, out: &mut [u32])
     requires { (first + 32 * count ≤ length log.now) × (8 * count ≤ length out.old) }
     ensures { out.new ≡ put out.old 0 (entries_told log.now first count) }
 {
-    let mut i = 0;
-    while i < count {
+    for i in 0..count {
         let at = first + 32 * i;
-        let a = decode(log, at);
-        write_eight(out, 8 * i, read_u32(log, at), a);
-        i += 1;
+        write_eight(out, 8 * i, read_u32(log, at), decode(log, at));
     }
 }

@@ -1,11 +1,10 @@
 // 16 WORD: what no answer says, as a table.
 ghost use Rattle.std.specs.Prelude.{◌||◌, ◌≡◌, eqb, ltb};
 ghost use Rattle.rules.specs.Answers.{has_moment};
-ghost use Rattle.rules.specs.AnswerFile.{is_refused, no_moment, word_cases};
-ghost use Rattle.refusals.specs.Cases.{first_or};
+ghost use Rattle.rules.specs.AnswerFile.{is_refused, no_moment, word_refusal};
+ghost use Rattle.rules.specs.Refusals.{refusal_in};
 
-use refusals::first;
-use rules::Told;
+use rules::{Refusal, Told};
 
 fn no_moment(a: Told) -> bool
     ensures { result ≡ no_moment a }
@@ -49,20 +48,18 @@ fn is_above_5(n: u32) -> bool
     5 < n
 }
 
-// 16 where a row of its table is due, else `rest`: from the last row to the first.
-pub fn word_refusal(a: Told, rest: u32) -> u32
-    ensures { result ≡ first_or (word_cases a) rest }
+// 16 where any row of its table is due: the rows in the order of the table.
+pub fn check_word(a: Told) -> Result<(), Refusal>
+    ensures { refusal_in result ≡ word_refusal a }
 {
     let refused = is_refused(a);
-    let moment = has_moment(a);
-    let still = no_moment(a);
     let unnumbered = is_zero(a.number);
-    let uncounted = is_zero(a.count);
-    let seven = first(!refused & !unnumbered, 16, rest);
-    let six = first(refused & !uncounted, 16, seven);
-    let five = first(!moment & !still, 16, six);
-    let four = first(refused & unnumbered, 16, five);
-    let three = first(!refused & is_no_count(a.count), 16, four);
-    let two = first(is_off_grid(a), 16, three);
-    first(is_above_5(a.word), 16, two)
+    let wrong = is_above_5(a.word)
+        | is_off_grid(a)
+        | !refused & is_no_count(a.count)
+        | refused & unnumbered
+        | !has_moment(a) & !no_moment(a)
+        | refused & !is_zero(a.count)
+        | !refused & !unnumbered;
+    if wrong { Err(Refusal::Word) } else { Ok(()) }
 }

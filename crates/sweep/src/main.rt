@@ -1,10 +1,9 @@
 // sweep [FILE]: a query file, or standard input, and its answers as lines on standard output.
 #![tactic(auto)]
 
-use console::{Input, has_argument, print, read_input, say};
+use console::{Failure, has_argument, print, read_input, report, say};
 use help::help;
 use std::rt::{Env, HostRuntime};
-use text::Written;
 
 mod help; // help.rt: what --help prints
 
@@ -15,30 +14,25 @@ fn usage(rt: &HostRuntime) {
     );
 }
 
-fn version(rt: &HostRuntime) {
+fn version(rt: &HostRuntime) -> Result<(), Failure<'static>> {
     print(
         rt,
         b"sweep 0.3.0\n",
         b"sweep: the version cannot be written to standard output",
-    );
+    )
 }
 
 // The answers of the query file.
-fn answer(rt: &HostRuntime) {
+fn answer(rt: &HostRuntime) -> Result<(), Failure<'static>> {
     let mut file = [0u8; 65537];
     let mut out = [0u8; 45280];
-    let Input::Bytes(size) = read_input(rt, 1, &mut file, b"sweep: the query file cannot be read")
-    else {
-        return;
-    };
-    let Written::Text(printed) = page::write_page(&file[..size], &mut out) else {
-        return say(rt, b"sweep: no room for the answers\n"); // never: 45,280 bytes hold them
-    };
+    let size = read_input(rt, 1, &mut file, b"sweep: the query file cannot be read")?;
+    let printed = page::write_page(&file[..size], &mut out).unwrap();
     print(
         rt,
         &out[..printed],
         b"sweep: the answers cannot be written to standard output",
-    );
+    )
 }
 
 // Whether an argument begins as an option does.
@@ -47,11 +41,14 @@ fn is_option(argument: &[u8]) -> bool {
 }
 
 // What the one argument asks for; none, and one too long for a path, read as an empty text.
-fn serve(rt: &HostRuntime, argument: &[u8]) {
+fn serve(rt: &HostRuntime, argument: &[u8]) -> Result<(), Failure<'static>> {
     match argument {
         b"--help" => help(rt),
         b"--version" => version(rt),
-        _ if is_option(argument) => usage(rt),
+        _ if is_option(argument) => {
+            usage(rt);
+            Ok(())
+        }
         _ => answer(rt),
     }
 }
@@ -62,5 +59,7 @@ fn main(rt: HostRuntime) {
     }
     let mut text = [0u8; 4096];
     let size = rt.arg(1, &mut text).unwrap_or(0);
-    serve(&rt, &text[..size]);
+    if let Err(failure) = serve(&rt, &text[..size]) {
+        report(&rt, failure);
+    }
 }

@@ -1,9 +1,8 @@
 // tell [FILE]: an answer file, or standard input, and its answers as the lines that sweep prints.
 #![tactic(auto)]
 
-use console::{Input, has_argument, print, read_input, say};
+use console::{Failure, has_argument, print, read_input, report, say};
 use std::rt::HostRuntime;
-use text::Written;
 
 fn usage(rt: &HostRuntime) {
     say(
@@ -13,27 +12,23 @@ fn usage(rt: &HostRuntime) {
 }
 
 // The answers of the answer file.
-fn answer(rt: &HostRuntime) {
+fn answer(rt: &HostRuntime) -> Result<(), Failure<'static>> {
     let mut log = [0u8; 262145];
     let mut out = [0u8; 327840];
-    let Input::Bytes(size) = read_input(rt, 1, &mut log, b"tell: the answer file cannot be read")
-    else {
-        return;
-    };
-    let Written::Text(printed) = retold::write_told(&log[..size], &mut out) else {
-        return say(rt, b"tell: no room for the answers\n"); // never: 327,840 bytes hold them
-    };
+    let size = read_input(rt, 1, &mut log, b"tell: the answer file cannot be read")?;
+    let printed = retold::write_told(&log[..size], &mut out).unwrap();
     print(
         rt,
         &out[..printed],
         b"tell: the answers cannot be written to standard output",
-    );
+    )
 }
 
 fn main(rt: HostRuntime) {
     if has_argument(&rt, 2) {
-        usage(&rt);
-    } else {
-        answer(&rt);
+        return usage(&rt);
+    }
+    if let Err(failure) = answer(&rt) {
+        report(&rt, failure);
     }
 }

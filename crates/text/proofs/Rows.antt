@@ -1,6 +1,7 @@
 -- Loops over the answers: what is done and what is left make the whole.
 --     rows_more                          the first of what is left, and the others
 --     lined_none, lined_more, lined_all  the lines written so far: at the start, one more, all of them
+--     tallied_none, tallied_more, tallied_all   the tallies written so far, in the order of the words
 --     counted_none, counted_more, counted_all   the same of a tally
 -- Assumes nothing.
 use Prim.Native.Nat.{ℕ, zero, suc, ◌+◌, ◌-◌, ◌*◌, ◌≤◌, ◌<◌}
@@ -10,9 +11,12 @@ use mathlib.Core.List.{List, [], ◌∷◌, ◌++◌, append_assoc, append-nil}
 use native.Mathlib.Omega.{arith}
 use lib.Dec.{eqb}
 use lib.ListN.{length, get_or, drop}
-use lib.Seq.{drop-drop, get_or-drop}
+use lib.Seq.{drop-drop, drop-cons, get_or-drop}
+use mir.Val.{bool_byte}
+use Rattle.std.proofs.Common.{add-one}
+use Rattle.rules.specs.QueryFile.{joined}
 use Rattle.text.specs.declared.Row.{Row}
-use Rattle.text.specs.Text.{kind_of, line, lines, tally, row_of, rows}
+use Rattle.text.specs.Text.{kind_of, line, lines, tally, tallied, tallies, row_of, rows}
 use Rattle.text.specs.Writers.{Wrote}
 use Rattle.text.proofs.Writing.{then, roomier}
 use Rattle.little.specs.Put.{put_nil}
@@ -85,15 +89,73 @@ module _ (told out₀ : List ℕ) (n : ℕ) where
       let e : l.done ≡ lines (rows n told) = sym (append-nil l.done) ∙ ap (λ (rs : List Row). l.done ++ lines rs) (sym (left_none told n)) ∙ l.rest in
       rw (← e) l.wrote
 
+-- the words in the order of their tallies
+abbrev words : List ℕ
+words = 1 ∷ 2 ∷ 3 ∷ 4 ∷ 5 ∷ 0 ∷ []
+
+-- the tallies of the first i words stand in the buffer
+pub record Tallied (told : List ℕ) (n : ℕ) (out₀ : List ℕ) (at i end : ℕ) (out : List ℕ) : Type 0 where
+  pub done : List ℕ
+  pub same : length out ≡ length out₀
+  pub wrote : Wrote (19 * i) out₀ at done out end
+  pub rest : done ++ joined (λ (k : ℕ). tallied k (rows n told)) (drop i words) ≡ tallies (rows n told)
+
+module _ (told : List ℕ) (n : ℕ) (out₀ : List ℕ) (at : ℕ) where
+  abbrev each : List ℕ → List ℕ
+  each ks = joined (λ (k : ℕ). tallied k (rows n told)) ks
+
+  each_more : (i : ℕ) → i < 6 → each (drop i words) ≡ tallied (get_or words i 0) (rows n told) ++ each (drop (suc i) words)
+  unfolding joined
+  each_more i h = rw (drop-cons words i 0 h)
+
+  all_words : each words ≡ tallies (rows n told)
+  unfolding joined tallies
+  all_words = simp (append_assoc, append-nil, tallies)
+
+  pub tallied_none : Tallied told n out₀ at 0 at out₀
+  tallied_none =
+      record {
+        done = [];
+        same = refl;
+        wrote = record { bytes = sym (put_nil out₀ at); behind = omega arith; few = omega arith };
+        rest = all_words;
+      }
+
+  pub tallied_more : {i end end' : ℕ} {out out' : List ℕ}
+      → Tallied told n out₀ at i end out
+      → i < 6
+      → at + 114 ≤ length out₀
+      → length out' ≡ length out
+      → Wrote 19 out end (tallied (get_or words i 0) (rows n told)) out' end'
+      → Tallied told n out₀ at (i + 1) end' out'
+  unfolding joined
+  tallied_more {i} t h room same w =
+      let one = tallied (get_or words i 0) (rows n told) in
+      let both = then t.wrote w (omega arith) in
+      record {
+        done = t.done ++ one;
+        same = same ∙ t.same;
+        wrote = roomier both (omega (arith, both.few));
+        rest = rw (append_assoc, add-one, ← each_more i h) t.rest;
+      }
+
+  pub tallied_all : {end : ℕ} {out : List ℕ} → Tallied told n out₀ at 6 end out → Wrote 114 out₀ at (tallies (rows n told)) out end
+  unfolding joined
+  tallied_all t = rw (← (sym (append-nil t.done) ∙ t.rest)) t.wrote
+
 -- of the first i answers `sum` have the word k
 pub record Counted (told : List ℕ) (n k i sum : ℕ) : Type 0 where
   pub some : i ≤ n
   pub few : sum ≤ i
   pub rest : sum + tally k (left told n i) ≡ tally k (rows n told)
 
-pub at_most_one : (b : Bool) → cond {A = ℕ} b 1 0 ≤ 1
+at_most_one : (b : Bool) → bool_byte b ≤ 1
 at_most_one true = omega arith
 at_most_one false = omega arith
+
+number_of : (b : Bool) → bool_byte b ≡ cond b 1 0
+number_of true = refl
+number_of false = refl
 
 module _ (told : List ℕ) (n k : ℕ) where
   pub counted_none : Counted told n k 0 0
@@ -102,12 +164,12 @@ module _ (told : List ℕ) (n k : ℕ) where
   pub counted_more : {i sum one : ℕ}
       → Counted told n k i sum
       → i < n
-      → one ≡ cond (eqb (kind_of (get_or told (8 * i + 1) 0)) k) 1 0
+      → one ≡ bool_byte (eqb (kind_of (get_or told (8 * i + 1) 0)) k)
       → Counted told n k (i + 1) (sum + one)
   unfolding tally row_of
   counted_more {i} {sum} {one} l h e =
       let first : one + tally k (left told n (i + 1)) ≡ tally k (left told n i) =
-      rw (rows_more told n i h, get_or-drop (8 * i) told 1 0, e) in
+      rw (rows_more told n i h, get_or-drop (8 * i) told 1 0, e, number_of (eqb (kind_of (get_or told (8 * i + 1) 0)) k)) in
       record {
         some = omega arith;
         few = omega (arith, at_most_one (eqb (kind_of (get_or told (8 * i + 1) 0)) k));

@@ -1,18 +1,14 @@
--- Laws of the words: what a number that is no answer's is told as, and which numbers stand behind a word.
+-- Laws of the words: how a number that is no answer's is named, and which numbers stand behind a word.
 -- Assumes nothing.
-use Prim.Native.Nat.{ℕ, zero, suc, ◌≤◌, ◌<◌}
+use Prim.Native.Nat.{ℕ, zero, suc, ◌<◌}
 use mathlib.Core.Path.{◌≡◌, refl}
 use mathlib.Core.List.{◌++◌}
 use native.Mathlib.Omega.{arith}
-use borrow.Author.Tests.{le-leb, lt-leb, eq-eqb, ne_eqb}
+use borrow.Author.Tests.{lt-leb, eq-eqb, ne_eqb}
 use Rattle.text.specs.Text.{ascii, field, kind_of, named, values}
 use Rattle.rules.specs.declared.Told.{Told}
 
-pub kind_low : (w : ℕ) → w ≤ 5 → w ≡ kind_of w
-unfolding kind_of
-kind_low w h = rw (le-leb w 5 h)
-
-pub kind_high : (w : ℕ) → 5 < w → 0 ≡ kind_of w
+kind_high : (w : ℕ) → 5 < w → 0 ≡ kind_of w
 unfolding kind_of
 kind_high w h = rw (lt-leb w 5 h)
 

@@ -9,12 +9,12 @@ use mathlib.Core.Bool.{Bool, true, false}
 use mathlib.Core.Path.{◌≡◌, refl, ap}
 use mathlib.Core.List.{List, ◌++◌}
 use native.Mathlib.Omega.{arith}
+use Rattle.std.specs.Prelude.{Some, None}
 use lib.ListN.{length, length-append}
 use lib.Seq.{paste, take-length}
 use Rattle.rules.specs.QueryFile.{put}
 use Rattle.little.specs.Put.{one_more}
 use Rattle.text.specs.Writers.{Wrote, Printed, written_if, buffer_if}
-use Rattle.text.specs.declared.Written.TheVariants.{Text, Nothing}
 
 -- a writer, and a second that begins where the first ended
 pub then : {j k at m next : ℕ} {s₀ s₁ s₂ xs ys : List ℕ}
@@ -38,12 +38,12 @@ pub roomier : {j k at next : ℕ} {s s' vs : List ℕ} → Wrote j s at vs s' ne
 roomier w h = record { bytes = w.bytes; behind = w.behind; few = h }
 
 -- a text that had no room, and one that was written
-pub printed_not : {room : Bool} {text s : List ℕ} → room ≡ false → Printed room text s s Nothing
+pub printed_not : {room : Bool} {text s : List ℕ} → room ≡ false → Printed room text s s None
 unfolding written_if buffer_if
 printed_not e = rw e (record { said = refl; bytes = refl })
 
-pub printed : {room : Bool} {k next : ℕ} {text s s' : List ℕ} → room ≡ true → Wrote k s 0 text s' next → Printed room text s s' (Text next)
+pub printed : {room : Bool} {k next : ℕ} {text s s' : List ℕ} → room ≡ true → Wrote k s 0 text s' next → Printed room text s s' (Some next)
 unfolding written_if buffer_if
 printed {next = next} {text = text} e w =
     let n : next ≡ length text = omega (arith, w.behind) in
-    rw e (record { said = ap Text n; bytes = w.bytes })
+    rw e (record { said = ap Some n; bytes = w.bytes })

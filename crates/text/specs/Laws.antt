@@ -3,10 +3,9 @@
 --     read-back        a number's digits read back give the number, so no two numbers print alike
 --     printed_once     no second answer and no second buffer fits what a writer promises
 -- Assumes nothing.
-use Rattle.std.specs.Prelude.{ℕ, zero, suc, ◌+◌, ◌-◌, ◌*◌, ◌/◌, ◌%◌, ◌≤◌, ◌<◌, Bool, true, false, cond, ◌≡◌, refl, List, [], ◌∷◌, ◌++◌, ltb, leb, eqb, length}
+use Rattle.std.specs.Prelude.{ℕ, zero, suc, ◌+◌, ◌-◌, ◌*◌, ◌/◌, ◌%◌, ◌≤◌, ◌<◌, Bool, true, false, cond, ◌≡◌, refl, List, [], ◌∷◌, ◌++◌, Option, ltb, leb, eqb, length}
 use Rattle.std.proofs.Common.{sym, ◌∙◌, arith, ltb-false, leb-true}
 use Rattle.text.specs.declared.Row.{Row}
-use Rattle.text.specs.declared.Written.{Written}
 use Rattle.text.specs.Text.{digits, decimal, kind_of, tally}
 use Rattle.text.specs.Writers.{Printed}
 
@@ -59,5 +58,5 @@ pub read_back : (n : ℕ) → read_on 0 (decimal n) ≡ n
 unfolding decimal
 read_back n = read_digits (suc n) n (omega arith)
 
-pub printed_once : {room : Bool} {text before s s' : List ℕ} {r r' : Written} → Printed room text before s r → Printed room text before s' r' → (r ≡ r') × (s ≡ s')
+pub printed_once : {room : Bool} {text before s s' : List ℕ} {r r' : Option ℕ} → Printed room text before s r → Printed room text before s' r' → (r ≡ r') × (s ≡ s')
 printed_once p q = (p.said ∙ sym q.said, p.bytes ∙ sym q.bytes)

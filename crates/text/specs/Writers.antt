@@ -1,8 +1,6 @@
 -- What the writers promise: the answer, and every byte of the buffer that they are lent.
-use Rattle.std.specs.Prelude.{ℕ, ◌+◌, ◌*◌, ◌≤◌, ◌≡◌, Bool, true, false, ◌&&◌, List, leb, length}
+use Rattle.std.specs.Prelude.{ℕ, ◌+◌, ◌*◌, ◌≤◌, ◌≡◌, Bool, true, false, ◌&&◌, List, Option, Some, None, leb, length}
 use Rattle.rules.specs.QueryFile.{put}
-use Rattle.text.specs.declared.Written.{Written}
-use Rattle.text.specs.declared.Written.TheVariants.{Text, Nothing}
 
 -- `vs`, at most `most` bytes, now stands from `at` on, no other byte has changed, and `next` is the place behind it
 pub record Wrote (most : ℕ) (before : List ℕ) (at : ℕ) (vs after : List ℕ) (next : ℕ) : Type 0 where
@@ -11,16 +9,16 @@ pub record Wrote (most : ℕ) (before : List ℕ) (at : ℕ) (vs after : List �
   pub few : next ≤ at + most
 
 -- a text that is written where there is room: how many bytes, and the buffer afterwards
-unfoldable pub written_if : Bool → List ℕ → Written
-written_if true text = Text (length text)
-written_if false text = Nothing
+unfoldable pub written_if : Bool → List ℕ → Option ℕ
+written_if true text = Some (length text)
+written_if false text = None
 
 unfoldable pub buffer_if : Bool → List ℕ → List ℕ → List ℕ
 buffer_if true text buffer = put buffer 0 text
 buffer_if false text buffer = buffer
 
 -- what a whole text's writer promises
-pub record Printed (room : Bool) (text before after : List ℕ) (answer : Written) : Type 0 where
+pub record Printed (room : Bool) (text before after : List ℕ) (answer : Option ℕ) : Type 0 where
   pub said : answer ≡ written_if room text
   pub bytes : after ≡ buffer_if room text before
 

@@ -33,13 +33,6 @@ pub struct Row {
     pub answer: Told,
 }
 
-// How many bytes were written, or that none was.
-#[derive(Clone, Copy)]
-pub enum Written {
-    Text(usize),
-    Nothing,
-}
-
 // The five numbers of an answer, or the number of a refusal.
 fn write_values(out: &mut [u8], at: usize, answer: Told) -> usize
     requires { at + 55 ≤ length out.old }
@@ -60,11 +53,9 @@ fn write_line(out: &mut [u8], at: usize, row: Row) -> usize
     requires { at + 80 ≤ length out.old }
     ensures { Wrote 80 out.old at (line row) out.new result }
 {
-    let answer = row.answer;
-    let word = answer.word;
     let name_at = write_number(out, at, row.id);
-    let values_at = write_name(out, name_at, word);
-    let end_at = write_values(out, values_at, answer);
+    let values_at = write_name(out, name_at, row.answer.word);
+    let end_at = write_values(out, values_at, row.answer);
     write_byte(out, end_at, b'\n')
 }
 
@@ -74,18 +65,17 @@ fn row_at(told: &[u32], i: usize) -> Row
     ensures { result ≡ row_of (drop (8 * i) told.now) }
 {
     let at = 8 * i;
-    let answer = Told {
-        word: told[at + 1],
-        t: told[at + 2],
-        u: told[at + 3],
-        v: told[at + 4],
-        excess: told[at + 5],
-        count: told[at + 6],
-        number: told[at + 7],
-    };
     Row {
         id: told[at],
-        answer,
+        answer: Told {
+            word: told[at + 1],
+            t: told[at + 2],
+            u: told[at + 3],
+            v: told[at + 4],
+            excess: told[at + 5],
+            count: told[at + 6],
+            number: told[at + 7],
+        },
     }
 }
 
@@ -95,19 +85,10 @@ fn write_lines(told: &[u32], n: usize, out: &mut [u8]) -> usize
     ensures { Wrote (80 * n) out.old 0 (lines (rows n told.now)) out.new result }
 {
     let mut at = 0;
-    let mut i = 0;
-    while i < n {
+    for i in 0..n {
         at = write_line(out, at, row_at(told, i));
-        i += 1;
     }
     at
-}
-
-// 1 where a number stands for the word k.
-fn one_of(word: u32, k: u32) -> u32
-    ensures { result ≡ cond (eqb (kind_of word) k) 1 0 }
-{
-    if kind(word) == k { 1 } else { 0 }
 }
 
 // How many of the first n answers have the word k.
@@ -115,11 +96,9 @@ fn count_word(told: &[u32], n: u32, k: u32) -> u32
     requires { 8 * n ≤ length told.now }
     ensures { result ≡ tally k (rows n told.now) }
 {
-    let mut sum: u32 = 0;
-    let mut i: u32 = 0;
-    while i < n {
-        sum += one_of(told[8 * (i as usize) + 1], k);
-        i += 1;
+    let mut sum = 0;
+    for i in 0..n as usize {
+        sum += u32::from(kind(told[8 * i + 1]) == k);
     }
     sum
 }
@@ -138,12 +117,11 @@ fn write_tallies(told: &[u32], n: u32, out: &mut [u8], at: usize) -> usize
     requires { (8 * n ≤ length told.now) × (at + 114 ≤ length out.old) }
     ensures { Wrote 114 out.old at (tallies (rows n told.now)) out.new result }
 {
-    let clear_at = write_tally(told, n, out, at, 1);
-    let spent_at = write_tally(told, n, out, clear_at, 2);
-    let room_at = write_tally(told, n, out, spent_at, 3);
-    let floor_at = write_tally(told, n, out, room_at, 4);
-    let refused_at = write_tally(told, n, out, floor_at, 5);
-    write_tally(told, n, out, refused_at, 0)
+    let mut end = at;
+    for word in [1, 2, 3, 4, 5, 0] {
+        end = write_tally(told, n, out, end, word);
+    }
+    end
 }
 
 // The TOTAL line.
@@ -157,30 +135,30 @@ fn write_total(told: &[u32], n: u32, out: &mut [u8], at: usize) -> usize
     write_byte(out, end_at, b'\n')
 }
 
-// What `sweep` prints of a file with n records, from the buffer's start. `told` has eight numbers a record: id, word, t, u, v,
-// excess, count, refusal number. Nothing is written where it has fewer, or where the text might not fit.
-pub fn write_answers(told: &[u32], n: u32, out: &mut [u8]) -> Written
+// What `sweep` prints of a file with n records, from the buffer's start, and how many bytes it has. `told` has eight numbers a record:
+// id, word, t, u, v, excess, count, refusal number. None, and nothing written, where it has fewer, or where the text might not fit.
+pub fn write_answers(told: &[u32], n: u32, out: &mut [u8]) -> Option<usize>
     ensures { Printed (room_for n told.now out.old) (file_text (rows n told.now)) out.old out.new result }
 {
     let records = n as usize;
     if told.len() < 8 * records {
-        return Written::Nothing;
+        return None;
     }
     if out.len() < 80 * records + 160 {
-        return Written::Nothing;
+        return None;
     }
     let total_at = write_lines(told, records, out);
-    Written::Text(write_total(told, n, out, total_at))
+    Some(write_total(told, n, out, total_at))
 }
 
-// What `sweep` prints of a refused file. Nothing is written in a buffer of fewer than 16 bytes.
-pub fn write_refused(number: u32, out: &mut [u8]) -> Written
+// What `sweep` prints of a refused file, and how many bytes it has. None, and nothing written, in a buffer of fewer than 16 bytes.
+pub fn write_refused(number: u32, out: &mut [u8]) -> Option<usize>
     ensures { Printed (room_for_refusal out.old) (refused_text number) out.old out.new result }
 {
     if out.len() < 16 {
-        return Written::Nothing;
+        return None;
     }
     let number_at = write_text(out, 0, b"FILE");
     let end_at = write_field(out, number_at, number);
-    Written::Text(write_byte(out, end_at, b'\n'))
+    Some(write_byte(out, end_at, b'\n'))
 }

@@ -18,13 +18,14 @@ pub fn write_digits(out: &mut [u8], at: usize, n: u32) -> usize
     ensures { Wrote (length (decimal n)) out.old at (decimal n) out.new result }
 {
     if n < 10 {
-        return write_byte(out, at, 48 + (n as u8));
+        return write_byte(out, at, b'0' + (n as u8));
     }
     let last = write_digits(out, at, n / 10);
-    write_byte(out, last, 48 + ((n % 10) as u8))
+    write_byte(out, last, b'0' + ((n % 10) as u8))
 }
 
 // The same with room for the longest number.
+#[tactic(auto, using(crate::proofs::Digits::decimal_most, crate::proofs::Writing::roomier))]
 pub fn write_number(out: &mut [u8], at: usize, n: u32) -> usize
     requires { at + 10 ≤ length out.old }
     ensures { Wrote 10 out.old at (decimal n) out.new result }
@@ -46,15 +47,13 @@ pub fn write_text(out: &mut [u8], at: usize, text: &[u8]) -> usize
     requires { at + length text.now ≤ length out.old }
     ensures { Wrote (length text.now) out.old at text.now out.new result }
 {
-    let mut i = 0;
-    while i < text.len() {
-        out[at + i] = text[i];
-        i += 1;
-    }
-    at + i
+    let end = at + text.len();
+    out[at..end].copy_from_slice(text);
+    end
 }
 
 // The word that a number stands for; any above 5 stands for a refusal.
+#[tactic(auto, unfolding(crate::specs::Text::kind_of))]
 pub fn kind(word: u32) -> u32
     ensures { result ≡ kind_of word }
 {

@@ -5,8 +5,8 @@ ghost use Rattle.std.specs.Prelude.{◌≤◌, length};
 ghost use Rattle.text.specs.Writers.{Wrote};
 ghost use Rattle.why.specs.Page.{why_page};
 
-use console::{Input, Number, has_argument, print, read_input, read_number, say};
-use rules::{Ruling, Three};
+use console::{Failure, has_argument, print, read_input, read_number, report, say};
+use rules::{Refusal, Ruling, Three};
 use std::rt::{Env, HostRuntime};
 
 // The most bytes that an input has.
@@ -18,7 +18,7 @@ fn page(file: &[u8], n: usize, at: Three, out: &mut [u8]) -> usize
     ensures { Wrote 331 out.old 0 (why_page file.now n at 4096) out.new result }
 {
     if MOST < file.len() {
-        return wording::write_ruling(out, Ruling::Refused(15));
+        return wording::write_ruling(out, Ruling::Refused(Refusal::Long.number()));
     }
     let mut queue = [0u64; 4096];
     let a = reasons::rule(file, n, at, true, &mut queue);
@@ -32,52 +32,47 @@ fn usage(rt: &HostRuntime) {
     );
 }
 
-// The number that argument i is.
-fn argument(rt: &HostRuntime, i: usize) -> Number {
+// The number that argument i is; None where there is no such argument or it is no number.
+fn argument(rt: &HostRuntime, i: usize) -> Option<u32> {
     let mut text = [0u8; 4096];
-    match rt.arg(i, &mut text) {
-        Ok(size) => read_number(&text[..size]),
-        Err(_) => Number::Not,
-    }
+    let size = rt.arg(i, &mut text).ok()?;
+    read_number(&text[..size])
+}
+
+// The record and the point that the first four arguments name.
+fn asked(rt: &HostRuntime) -> Option<(usize, Three)> {
+    let n = argument(rt, 1)?;
+    let t = argument(rt, 2)?;
+    let u = argument(rt, 3)?;
+    let v = argument(rt, 4)?;
+    let at = Three {
+        t: u64::from(t),
+        u: u64::from(u),
+        v: u64::from(v),
+    };
+    Some((n as usize, at))
 }
 
 // Record n of the query file asked about a point.
-fn answer(rt: &HostRuntime, n: usize, at: Three) {
+fn answer(rt: &HostRuntime, n: usize, at: Three) -> Result<(), Failure<'static>> {
     let mut file = [0u8; 65537];
     let mut out = [0u8; 331];
-    let Input::Bytes(size) = read_input(rt, 5, &mut file, b"why: the query file cannot be read")
-    else {
-        return;
-    };
+    let size = read_input(rt, 5, &mut file, b"why: the query file cannot be read")?;
     let printed = page(&file[..size], n, at, &mut out);
     print(
         rt,
         &out[..printed],
         b"why: the answer cannot be written to standard output",
-    );
+    )
 }
 
 fn main(rt: HostRuntime) {
-    let Number::Is(n) = argument(&rt, 1) else {
-        return usage(&rt);
-    };
-    let Number::Is(t) = argument(&rt, 2) else {
-        return usage(&rt);
-    };
-    let Number::Is(u) = argument(&rt, 3) else {
-        return usage(&rt);
-    };
-    let Number::Is(v) = argument(&rt, 4) else {
-        return usage(&rt);
-    };
-    let at = Three {
-        t: t as u64,
-        u: u as u64,
-        v: v as u64,
-    };
-    if has_argument(&rt, 6) {
-        usage(&rt);
-    } else {
-        answer(&rt, n as usize, at);
+    match asked(&rt) {
+        Some((n, at)) if !has_argument(&rt, 6) => {
+            if let Err(failure) = answer(&rt, n, at) {
+                report(&rt, failure);
+            }
+        }
+        _ => usage(&rt),
     }
 }

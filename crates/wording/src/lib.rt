@@ -76,8 +76,8 @@ fn write_two(out: &mut [u8], at: usize, n: u64) -> usize
     requires { (at + 2 ≤ length out.old) × (n < 100) }
     ensures { Wrote 2 out.old at (two n) out.new result }
 {
-    let last = write_byte(out, at, 48 + ((n / 10) as u8));
-    write_byte(out, last, 48 + ((n % 10) as u8))
+    let last = write_byte(out, at, b'0' + ((n / 10) as u8));
+    write_byte(out, last, b'0' + ((n % 10) as u8))
 }
 
 fn write_percent(out: &mut [u8], at: usize, n: u64) -> usize
@@ -138,20 +138,18 @@ fn write_level(out: &mut [u8], at: usize, x: Reason) -> usize
     requires { (at + 60 ≤ length out.old) × OnGrid x }
     ensures { Wrote 60 out.old at (level_text x) out.new result }
 {
-    let k = x.depths;
     let level_at = write_text(out, at, b"); level");
     let word_at = write_field(out, level_at, x.level as u32);
     let depths_at = write_text(out, word_at, b", depths");
-    write_three(out, depths_at, k)
+    write_three(out, depths_at, x.depths)
 }
 
 fn write_index(out: &mut [u8], at: usize, x: Reason) -> usize
     requires { (at + 39 ≤ length out.old) × OnGrid x }
     ensures { Wrote 39 out.old at (index_text x) out.new result }
 {
-    let i = x.index;
     let index_at = write_text(out, at, b", box");
-    let end_at = write_three(out, index_at, i);
+    let end_at = write_three(out, index_at, x.index);
     write_byte(out, end_at, b'\n')
 }
 
@@ -168,21 +166,17 @@ fn write_ruled_out(out: &mut [u8], x: Reason) -> usize
     requires { (331 ≤ length out.old) × OnGrid x }
     ensures { Wrote 331 out.old 0 (ruled_out x) out.new result }
 {
-    let k = x.depths;
-    let i = x.index;
-    let axis = x.axis;
-    let side = x.side;
-    let spans_at = write_head(out, 0, axis, side);
-    let open_at = write_spans(out, spans_at, k, i);
+    let spans_at = write_head(out, 0, x.axis, x.side);
+    let open_at = write_spans(out, spans_at, x.depths, x.index);
     let shares_at = write_text(out, open_at, b" (");
-    let box_at = write_shares(out, shares_at, k, i);
+    let box_at = write_shares(out, shares_at, x.depths, x.index);
     write_box(out, box_at, x)
 }
 
 fn is_of_file(n: u32) -> bool
     ensures { result ≡ of_file n }
 {
-    (8 <= n) & (n <= 13) | (n == 15)
+    matches!(n, 8..=13 | 15)
 }
 
 fn write_word(out: &mut [u8], word: &[u8], n: u32) -> usize

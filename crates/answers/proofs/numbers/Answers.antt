@@ -18,4 +18,4 @@ pub returns-in-Floor : goal.returns-in-Floor
 returns-in-Floor c = c.moment-in-Floor.ensures ∙ ap told (sym c.in-Floor.is)
 
 pub returns-in-Refused : goal.returns-in-Refused
-returns-in-Refused c = c.refused.ensures ∙ ap told (sym c.in-Refused.is)
+returns-in-Refused c = rw c.moment-in-Refused.ensures (ap told (sym c.in-Refused.is))

@@ -8,14 +8,14 @@ use Rattle.rules.specs.Search.{search as searched}
 use Rattle.rules.specs.Bodies.{ask_of, cap_of, capped}
 use Rattle.triangles.specs.Members.{asked, ask_at}
 use Rattle.triangles.specs.InOrder.{capped_none}
-use Rattle.bodies.specs.Walk.{positions}
+use Rattle.bodies.specs.Walk.{positions_of}
 use Rattle.bodies.proofs.Walking.{heard_one, not_refused}
 use Rattle.bodies.proofs.hear_query.Goals as goal
 
 pub search_accepted-answer-requires : goal.search_accepted-answer-requires
 unfolding capped
 search_accepted-answer-requires c =
-    let asks : capped c.cap_of.result c.query_at-asks.result ≡ capped (cap_of c.args.sofar) (ask_of c.args.w (positions c.args.a0.now c.args.a1.now) (positions c.args.b0.now c.args.b1.now) c.args.i c.args.j (ask_at c.args.k)) =
+    let asks : capped c.cap_of.result c.query_at-asks.result ≡ capped (cap_of c.args.sofar) (ask_of c.args.w (positions_of c.args.a) (positions_of c.args.b) c.args.i c.args.j (ask_at c.args.k)) =
     λ i. capped (c.cap_of.ensures i) (c.query_at-asks.ensures 0 0 i) in
     let words = length c.args.queue.now in
     record {
@@ -26,11 +26,11 @@ search_accepted-answer-requires c =
 pub returns : goal.returns
 unfolding capped
 returns c =
-    let asks : capped c.cap_of.result c.query_at-asks.result ≡ capped (cap_of c.args.sofar) (ask_of c.args.w (positions c.args.a0.now c.args.a1.now) (positions c.args.b0.now c.args.b1.now) c.args.i c.args.j (ask_at c.args.k)) =
+    let asks : capped c.cap_of.result c.query_at-asks.result ≡ capped (cap_of c.args.sofar) (ask_of c.args.w (positions_of c.args.a) (positions_of c.args.b) c.args.i c.args.j (ask_at c.args.k)) =
     λ i. capped (c.cap_of.ensures i) (c.query_at-asks.ensures 0 0 i) in
     let words = length c.args.queue.now in
     record {
-      says = heard_one words c.args.sofar (asked c.args.w (positions c.args.a0.now c.args.a1.now) (positions c.args.b0.now c.args.b1.now) c.args.i c.args.j (1 + c.args.k) (ask_at c.args.k)) _ _ c.requires.to_hear.goes
+      says = heard_one words c.args.sofar (asked c.args.w (positions_of c.args.a) (positions_of c.args.b) c.args.i c.args.j (1 + c.args.k) (ask_at c.args.k)) _ _ c.requires.to_hear.goes
           (c.numbers.ensures ∙ ap told (c.search_accepted-answer.ensures.value ∙ ap (λ (r : Record). searched r words) (asks))) (c.heard.ensures.says _);
       kept = c.search_accepted-answer.ensures.queue_unchanged;
       grows = c.heard.ensures.grows;

@@ -3,7 +3,7 @@ use native.Mathlib.Omega.{arith}
 use mathlib.Core.Path.{◌≡◌, sym, ap, ◌∙◌}
 use lib.ListN.{replicate}
 use Rattle.rules.specs.Bodies.{body_refusal}
-use Rattle.bounds.specs.Reach.{body}
+use Rattle.bounds.specs.Reach.{body_of}
 use Rattle.bodies.proofs.Settling.{answered}
 use Rattle.bodies.proofs.walk.Goals as goal
 
@@ -15,7 +15,7 @@ pub hear_bodies-requires : goal.hear_bodies-requires
 hear_bodies-requires c =
     record {
       to_walk = record {
-        none = ap (λ (n : ℕ). body_refusal c.args.w (body c.args.m c.args.a0.now c.args.a1.now) (body c.args.n c.args.b0.now c.args.b1.now) n) c.clear_unless.auto.queue ∙ c.requires.none;
+        none = ap (λ (n : ℕ). body_refusal c.args.w (body_of c.args.a) (body_of c.args.b) n) c.clear_unless.auto.queue ∙ c.requires.none;
         of_a_lem = c.requires.of_a_lem;
         of_b_lem = c.requires.of_b_lem;
       };

@@ -26,8 +26,8 @@ loop-n-preserved g c =
     let n = c.loop-n.n in
     let old = c.loop-n.buffer in
     let room = length old - n in
-    let part = c.read_part.new.part in
+    let part = c.read.new.buf in
     let within = c.loop-n.invariant.0 in
-    let came = put n room c.in-Bytes.more old part within c.in-Bytes.ensures.within in
-    let joined = split n c.in-Bytes.more old (put_mid n room old part) (take-put_mid_below _ _ _ _ _ (le_refl _) within) in
-    (grind arith, subst (Consumes _ _) (ap (λ l. take n old ++ l) (sym came) ∙ joined) (Consumes-trans _ _ _ _ _ c.loop-n.invariant.1 c.in-Bytes.ensures.bytes.0))
+    let came = put n room c.in_ok-more.more old part within c.in_ok-more.ensures.bound.0 in
+    let joined = split n c.in_ok-more.more old (put_mid n room old part) (take-put_mid_below _ _ _ _ _ (le_refl _) within) in
+    (grind arith, subst (Consumes _ _) (ap (λ l. take n old ++ l) (sym came) ∙ joined) (Consumes-trans _ _ _ _ _ c.loop-n.invariant.1 c.in_ok-more.ensures.bytes.0))

@@ -8,4 +8,4 @@ returns-then-refusal-ne0 c =
 
 pub returns : goal.returns
 returns c =
-    copied c.args.file.now c.args.n c.args.edition c.args.out.now c.args.at c.fetch-f.ensures (omega (arith, c.if-refusal-ne0.false)) c.write_record.ensures c.number.ensures
+    copied c.args.file.now c.args.n c.args.edition c.args.out.now c.args.at c.fetch-f.ensures (omega (arith, c.if-refusal-ne0.false)) c.write_record.ensures c.number_in.ensures

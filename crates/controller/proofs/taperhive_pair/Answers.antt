@@ -14,18 +14,21 @@ use Rattle.controller.proofs.taperhive_pair.Goals as goal
 
 pub returns-then-not-is_edition : goal.returns-then-not-is_edition
 returns-then-not-is_edition c =
-    refuses 10 _ _ c.args.queue.now c.args.told.now (pair_none c.args.edition c.args.points.now c.args.told.now (sym c.is_edition.ensures ∙ c.if-not-is_edition.true)) (λ z. omega arith)
+    rw c.number.ensures
+    (refuses 10 _ _ c.args.queue.now c.args.told.now (pair_none c.args.edition c.args.points.now c.args.told.now (sym c.is_edition.ensures ∙ c.if-not-is_edition.true)) (λ z. omega arith))
 
 pub returns-then-points-lt24 : goal.returns-then-points-lt24
 returns-then-points-lt24 c =
     let is = sym c.is_edition.ensures ∙ c.if-not-is_edition.false in
-    refuses 14 _ _ c.args.queue.now c.args.told.now (pair_few c.args.edition c.args.points.now c.args.told.now is (omega (arith, c.if-points-lt24.true))) (λ z. omega arith)
+    rw c.number-then-points-lt24.ensures
+    (refuses 14 _ _ c.args.queue.now c.args.told.now (pair_few c.args.edition c.args.points.now c.args.told.now is (omega (arith, c.if-points-lt24.true))) (λ z. omega arith))
 
 pub returns-then-told-lt8 : goal.returns-then-told-lt8
 returns-then-told-lt8 c =
     let is = sym c.is_edition.ensures ∙ c.if-not-is_edition.false in
-    refuses 14 _ _ c.args.queue.now c.args.told.now
-    (pair_short c.args.edition c.args.points.now c.args.told.now is (omega (arith, c.if-points-lt24.false)) (omega (arith, c.if-told-lt8.true))) (λ z. omega arith)
+    rw c.number-then-told-lt8.ensures
+    (refuses 14 _ _ c.args.queue.now c.args.told.now
+    (pair_short c.args.edition c.args.points.now c.args.told.now is (omega (arith, c.if-points-lt24.false)) (omega (arith, c.if-told-lt8.true))) (λ z. omega arith))
 
 pub answer_record-requires : goal.answer_record-requires
 answer_record-requires c =

@@ -25,16 +25,16 @@ go_down-requires t c = (
   subst (λ (b : Stop). Good c.args.p b (c.args.left - 1)) (sym c.half.ensures) (good_half c.args.p c.args.s c.args.left c.if-left-eq0.false c.requires c.args.at),
 )
 
-pub returns-in-On : goal.returns-in-On
-returns-in-On t c =
-    ap Discarded c.reason.ensures ∙ sym (descend_out (asked c.args.p) c.args.at c.args.s c.args.left _ _ (sym c.missed.ensures ∙ c.in-On.is))
+pub returns-in-Some : goal.returns-in-Some
+returns-in-Some t c =
+    ap Discarded c.reason.ensures ∙ sym (descend_out (asked c.args.p) c.args.at c.args.s c.args.left _ (sym c.missed.ensures ∙ c.in-Some.is))
 
 pub returns-then-left-eq0 : goal.returns-then-left-eq0
 returns-then-left-eq0 t c =
-    sym (descend_end (asked c.args.p) c.args.at c.args.s c.args.left c.if-left-eq0.true (sym c.missed.ensures ∙ c.in-Nowhere.is))
+    sym (descend_end (asked c.args.p) c.args.at c.args.s c.args.left c.if-left-eq0.true (sym c.missed.ensures ∙ c.in-None.is))
 
 pub returns-else-left-eq0 : goal.returns-else-left-eq0
 returns-else-left-eq0 t c =
     c.go_down.ensures
     ∙ ap (descend (c.args.left - 1) (asked c.args.p) c.args.at) c.half.ensures
-    ∙ sym (descend_on (asked c.args.p) c.args.at c.args.s c.args.left c.if-left-eq0.false (sym c.missed.ensures ∙ c.in-Nowhere.is))
+    ∙ sym (descend_on (asked c.args.p) c.args.at c.args.s c.args.left c.if-left-eq0.false (sym c.missed.ensures ∙ c.in-None.is))

@@ -4,7 +4,3 @@ use Rattle.descent.proofs.half.Goals as goal
 pub holding-index-requires : goal.holding-index-requires
 holding-index-requires c =
     rw c.rare_split-split.ensures (halves c.args.p c.args.s c.requires)
-
-pub returns : goal.returns
-returns c =
-    rw (c.holding-index.ensures, c.deepen-depths.ensures, c.rare_split-split.ensures)

@@ -1,23 +1,23 @@
-use mathlib.Core.Path.{◌≡◌, sym, ◌∙◌}
-use native.Mathlib.Omega.{arith}
-use lib.ListN.{length}
-use Rattle.rules.specs.Why.{ask_refusal}
+use Rattle.std.proofs.Common.{length, sym, ◌∙◌}
+use Rattle.refusals.specs.Numbered.{not_zero}
 use Rattle.descent.proofs.Refusing.{refused_before, untouched, cleared}
 use Rattle.descent.proofs.why.Goals as goal
 
-pub returns-then-number-ne0 : goal.returns-then-number-ne0
-returns-then-number-ne0 c =
+pub returns-in-Err : goal.returns-in-Err
+returns-in-Err c =
     let words = length c.args.queue.now in
+    let some = not_zero c.in-Err.refusal in
     record {
-      value = refused_before c.args.r words c.args.at c.ask_refusal-number.result c.ask_refusal-number.ensures c.if-number-ne0.true;
-      queue_after = untouched c.args.r words c.args.at c.ask_refusal-number.result c.ask_refusal-number.ensures c.if-number-ne0.true c.args.queue.now;
+      value = rw c.number.ensures (refused_before c.args.r words c.args.at _ (c.in-Err.ensures) some);
+      queue_after = untouched c.args.r words c.args.at _ (c.in-Err.ensures) some c.args.queue.now;
     }
+
+pub why_accepted-requires : goal.why_accepted-requires
+why_accepted-requires c = sym (c.in_default.ensures)
 
 pub returns : goal.returns
 returns c =
-    let words = length c.args.queue.now in
-    let none : ask_refusal c.args.r words c.args.at ≡ 0 = sym c.ask_refusal-number.ensures ∙ omega (arith, c.if-number-ne0.false) in
     record {
       value = c.why_accepted.ensures.value;
-      queue_after = c.why_accepted.ensures.queue_after ∙ cleared c.args.r words c.args.at none c.args.queue.now;
+      queue_after = c.why_accepted.ensures.queue_after ∙ cleared c.args.r (length c.args.queue.now) c.args.at (sym (c.in_default.ensures)) c.args.queue.now;
     }

@@ -20,7 +20,7 @@ returns-then-not-is_before c =
     let found = c.search_levels-a.ensures.value ∙ ap (searched c.args.r) c.clear.auto.words in
     let late = ap (λ (a : Answer). is_before a c.args.at.t) (sym found) ∙ sym c.is_before.ensures ∙ c.if-not-is_before.true in
     record {
-      value = refused_24 c.args.r (length c.args.queue.now) c.args.at c.requires late;
+      value = rw c.number.ensures (refused_24 c.args.r (length c.args.queue.now) c.args.at c.requires late);
       queue_after = c.search_levels-a.ensures.queue_unchanged ∙ c.clear.ensures;
     }
 

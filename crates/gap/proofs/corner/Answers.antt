@@ -5,8 +5,8 @@ use Rattle.gap.specs.Grid.{over_of, low_fits}
 use Rattle.gap.specs.Asked.{excess_is}
 use Rattle.gap.proofs.corner.Goals as goal
 
-pub excess-e-requires : goal.excess-e-requires
-excess-e-requires c = over_of c.requires.0 c.cell_of-w.ensures
+pub excess-requires : goal.excess-requires
+excess-requires c = over_of c.requires.0 c.cell_of-w.ensures
 
 pub low-t-requires : goal.low-t-requires
 low-t-requires c = (omega (arith, c.requires.0.deepest), (omega (arith, c.requires.1.0.t, c.requires.0.deepest), le_of_lt c.requires.1.1.t))
@@ -33,7 +33,7 @@ returns c =
       c.low-t.ensures,
       c.low-u.ensures,
       c.low-v.ensures,
-      c.excess-e.ensures,
+      c.excess.ensures,
       c.cell_of-w.ensures.is,
       excess_is c.requires.0.deepest c.args.p c.args.k c.args.i c.requires.1.0,
     )

@@ -7,9 +7,3 @@ pub overflow_add-result : goal.overflow_add-result
 overflow_add-result c =
     let w = in_parts_of {d = 20} (lit≤ tt) c.requires.0 c.requires.1 in
     omega (arith, w.u0, w.v0)
-
-pub returns-then-p : goal.returns-then-p
-returns-then-p c = rw (c.low.ensures, c.low-then-p.ensures, c.if-p.true)
-
-pub returns-else-p : goal.returns-else-p
-returns-else-p c = rw c.if-p.false

@@ -13,4 +13,4 @@ miss_on-z-requires c = let o = over_of c.requires.0 c.cell_of-w.ensures in (o.z,
 
 pub returns : goal.returns
 returns c =
-    rw (← missed_is c.requires.0.deepest c.args.p c.args.k c.args.i c.requires.1.0, ← c.cell_of-w.ensures.is, ← c.miss_on-x.ensures, ← c.miss_on-y.ensures, ← c.miss_on-z.ensures, ← c.or_next.ensures, ← c.or_next-2.ensures)
+    rw (← missed_is c.requires.0.deepest c.args.p c.args.k c.args.i c.requires.1.0, ← c.cell_of-w.ensures.is, ← c.miss_on-x.ensures, ← c.miss_on-y.ensures, ← c.miss_on-z.ensures, ← c.or.ensures, ← c.or-2.ensures)

@@ -1,17 +1,9 @@
-use borrow.Author.Tests.{eq-eqb, ne_eqb}
+use borrow.Author.Tests.{ne_eqb}
 use Rattle.rules.specs.Search.{near}
-use Rattle.gap.specs.Grid.{over_of}
 use Rattle.gap.specs.Asked.{width_is}
 use Rattle.gap.proofs.near.Goals as goal
 
 -- `gap::near` meets its contract.
-pub returns-then-e-eq0 : goal.returns-then-e-eq0
-unfolding near
-returns-then-e-eq0 c = rw (← c.requires.1, eq-eqb _ 0 c.if-e-eq0.true)
-
-pub thin-requires : goal.thin-requires
-thin-requires c = over_of c.requires.0.0 c.cell_of-w.ensures
-
 pub returns : goal.returns
 unfolding near
 returns c =

@@ -1,7 +1,9 @@
+use Rattle.std.proofs.Common.{sym, ◌∙◌}
 use lib.Dec.{lit≤}
 use Rattle.kernel.specs.Ranges.{one_part}
 use Rattle.gap.specs.Prepared.{coordinates, pair_prepared, misses_z, misses_x, goes_by_y}
 use Rattle.gap.proofs.survives_whole.Goals as goal
+use Rattle.gap.proofs.survives_whole.Goals.{then-meets_whole, else-meets_whole}
 
 -- `gap::survives_whole` meets its contract.
 pub kernel_at-requires : goal.kernel_at-requires
@@ -30,18 +32,23 @@ meets_whole-requires-then-meets_whole-2 c =
 
 pub returns-then-meets_whole-2 : goal.returns-then-meets_whole-2
 returns-then-meets_whole-2 c =
-    goes_by_y c.args.r c.args.words
-    (rw c.kernel_at.ensures at c.meets_whole.ensures) c.if-meets_whole.true
-    (rw c.kernel_at-then-meets_whole.ensures at c.meets_whole-then-meets_whole.ensures) c.if-meets_whole-2.true
-    (rw c.kernel_at-then-meets_whole-2.ensures at c.meets_whole-then-meets_whole-2.ensures)
+    elim c.if-meets_whole.branch [
+      | then-meets_whole w ↦
+          goes_by_y c.args.r c.args.words
+          (rw c.kernel_at.ensures at c.meets_whole.ensures) w.if-meets_whole.true
+          (rw w.kernel_at-then-meets_whole.ensures at w.meets_whole-then-meets_whole.ensures) (sym w.value-is ∙ c.if-meets_whole-2.true)
+          (rw c.kernel_at-then-meets_whole-2.ensures at c.meets_whole-then-meets_whole-2.ensures)
+      | else-meets_whole w ↦ cc
+    ]
 
 pub returns-else-meets_whole-2 : goal.returns-else-meets_whole-2
 returns-else-meets_whole-2 c =
-    misses_x c.args.r c.args.words
-    (rw c.kernel_at.ensures at c.meets_whole.ensures) c.if-meets_whole.true
-    (rw c.kernel_at-then-meets_whole.ensures at c.meets_whole-then-meets_whole.ensures) c.if-meets_whole-2.false
-
-pub returns-else-meets_whole : goal.returns-else-meets_whole
-returns-else-meets_whole c =
-    misses_z c.args.r c.args.words
-    (rw c.kernel_at.ensures at c.meets_whole.ensures) c.if-meets_whole.false
+    elim c.if-meets_whole.branch [
+      | then-meets_whole w ↦
+          c.if-meets_whole-2.false
+          ∙ misses_x c.args.r c.args.words
+          (rw c.kernel_at.ensures at c.meets_whole.ensures) w.if-meets_whole.true
+          (rw w.kernel_at-then-meets_whole.ensures at w.meets_whole-then-meets_whole.ensures) (sym w.value-is ∙ c.if-meets_whole-2.false)
+      | else-meets_whole w ↦
+          c.if-meets_whole-2.false ∙ misses_z c.args.r c.args.words (rw c.kernel_at.ensures at c.meets_whole.ensures) w.if-meets_whole.false
+    ]

@@ -8,6 +8,8 @@ use native.Mathlib.Omega.{arith}
 use lib.IntN.{ℤ, pos, neg_ℤ, ◌*ℤ◌}
 use lib.Signed.{◌≤ℤ◌, ◌<ℤ◌, le_z}
 use lib.Dec.{T}
+use Rattle.std.specs.Prelude.{Option, Some, None}
+use Rattle.std.specs.Option.{option_or}
 use Rattle.whole.specs.View.{zed, neg_up, neg_dn}
 use Rattle.whole.specs.Order.{≤ℤ_trans, ≤ℤ_or-<, le_z_false}
 use Rattle.rules.specs.declared.Axis.{Axis}
@@ -15,10 +17,9 @@ use Rattle.rules.specs.declared.Axis.TheVariants.{X, Y, Z}
 use Rattle.rules.specs.declared.Side.{Side}
 use Rattle.rules.specs.declared.Side.TheVariants.{Above, Below}
 use Rattle.rules.specs.declared.Miss.{Miss}
-use Rattle.rules.specs.declared.Miss.TheVariants.{Nowhere, On}
 use Rattle.rules.specs.Gap.{Place, place}
 use Rattle.rules.specs.Search.{Query, Box, Depths, unit, least, greatest, survives}
-use Rattle.rules.specs.Why.{miss_on, missed, or_next}
+use Rattle.rules.specs.Why.{miss_on, missed}
 use Rattle.promise.specs.Why.{In, Beyond}
 use Rattle.promise.proofs.Line.{≤ℤ_times}
 use Rattle.promise.proofs.Side.{from_least, to_greatest, times_minus}
@@ -64,20 +65,20 @@ module _ (S : Query) (k : Depths) (box : Box) where
   Fails axis Above = le_z (least S k box axis) (limit axis) ≡ false
   Fails axis Below = le_z (neg_ℤ (limit axis)) (greatest S k box axis) ≡ false
 
-  abbrev pub Says : Miss → Type 0
-  Says Nowhere = T (survives S k box)
-  Says (On axis side) = Fails axis side
+  abbrev pub Says : Option Miss → Type 0
+  Says None = T (survives S k box)
+  Says (Some m) = Fails m.axis m.side
 
-  abbrev SaysOn : Axis → Miss → Type 0
-  SaysOn axis Nowhere = T (reaches S k box axis)
-  SaysOn axis (On other side) = Fails other side
+  abbrev SaysOn : Axis → Option Miss → Type 0
+  SaysOn axis None = T (reaches S k box axis)
+  SaysOn axis (Some m) = Fails m.axis m.side
 
   says_on : (axis : Axis) → SaysOn axis (miss_on S k box axis)
   unfolding miss_on reaches
   says_on axis = go (le_z (least S k box axis) (limit axis)) (le_z (neg_ℤ (limit axis)) (greatest S k box axis)) refl refl
     where
       go : (x y : Bool) → le_z (least S k box axis) (limit axis) ≡ x → le_z (neg_ℤ (limit axis)) (greatest S k box axis) ≡ y
-          → SaysOn axis (cond x (cond y Nowhere (On axis Below)) (On axis Above))
+          → SaysOn axis (cond x (cond y None (Some (record { axis = axis; side = Below }))) (Some (record { axis = axis; side = Above })))
       go true true e f = subst T (sym (both e f)) tt
         where
           both : le_z (least S k box axis) (limit axis) ≡ true → le_z (neg_ℤ (limit axis)) (greatest S k box axis) ≡ true → reaches S k box axis ≡ true
@@ -89,11 +90,11 @@ module _ (S : Query) (k : Depths) (box : Box) where
   unfolding missed
   says = go (miss_on S k box X) (miss_on S k box Y) (miss_on S k box Z) (says_on X) (says_on Y) (says_on Z)
     where
-      go : (x y z : Miss) → SaysOn X x → SaysOn Y y → SaysOn Z z → Says (or_next x (or_next y z))
-      go (On axis side) y z f g h = f
-      go Nowhere (On axis side) z f g h = g
-      go Nowhere Nowhere (On axis side) f g h = h
-      go Nowhere Nowhere Nowhere f g h = survives_intro S k box each
+      go : (x y z : Option Miss) → SaysOn X x → SaysOn Y y → SaysOn Z z → Says (option_or x (option_or y z))
+      go (Some m) y z f g h = f
+      go None (Some m) z f g h = g
+      go None None (Some m) f g h = h
+      go None None None f g h = survives_intro S k box each
         where
           each : (axis : Axis) → T (reaches S k box axis)
           each X = f
@@ -101,19 +102,19 @@ module _ (S : Query) (k : Depths) (box : Box) where
           each Z = h
 
   -- no axis before the named one misses
-  abbrev pub Before : Miss → Type 0
-  Before Nowhere = Unit {0}
-  Before (On axis side) = (other : Axis) → place other < place axis → T (reaches S k box other)
+  abbrev pub Before : Option Miss → Type 0
+  Before None = Unit {0}
+  Before (Some m) = (other : Axis) → place other < place m.axis → T (reaches S k box other)
 
-  abbrev Own : Axis → Miss → Type 0
-  Own axis Nowhere = Unit {0}
-  Own axis (On other side) = place other ≡ place axis
+  abbrev Own : Axis → Option Miss → Type 0
+  Own axis None = Unit {0}
+  Own axis (Some m) = place m.axis ≡ place axis
 
   own : (axis : Axis) → Own axis (miss_on S k box axis)
   unfolding miss_on
   own axis = go (le_z (least S k box axis) (limit axis)) (le_z (neg_ℤ (limit axis)) (greatest S k box axis))
     where
-      go : (x y : Bool) → Own axis (cond x (cond y Nowhere (On axis Below)) (On axis Above))
+      go : (x y : Bool) → Own axis (cond x (cond y None (Some (record { axis = axis; side = Below }))) (Some (record { axis = axis; side = Above })))
       go true true = tt
       go true false = refl
       go false y = refl
@@ -122,21 +123,21 @@ module _ (S : Query) (k : Depths) (box : Box) where
   unfolding missed
   before = go (miss_on S k box X) (miss_on S k box Y) (miss_on S k box Z) (own X) (own Y) (own Z) (says_on X) (says_on Y)
     where
-      go : (x y z : Miss) → Own X x → Own Y y → Own Z z → SaysOn X x → SaysOn Y y → Before (or_next x (or_next y z))
-      go (On axis side) y z e _ _ f g = λ other h. absurd (omega (arith, e, h))
-      go Nowhere (On axis side) z _ e _ f g = λ other h. at other (omega (arith, e, h))
+      go : (x y z : Option Miss) → Own X x → Own Y y → Own Z z → SaysOn X x → SaysOn Y y → Before (option_or x (option_or y z))
+      go (Some m) y z e _ _ f g = λ other h. absurd (omega (arith, e, h))
+      go None (Some m) z _ e _ f g = λ other h. at other (omega (arith, e, h))
         where
           at : (other : Axis) → place other < 1 → T (reaches S k box other)
           at X h = f
           at Y h = absurd (omega arith)
           at Z h = absurd (omega arith)
-      go Nowhere Nowhere (On axis side) _ _ e f g = λ other h. at other (omega (arith, e, h))
+      go None None (Some m) _ _ e f g = λ other h. at other (omega (arith, e, h))
         where
           at : (other : Axis) → place other < 2 → T (reaches S k box other)
           at X h = f
           at Y h = g
           at Z h = absurd (omega arith)
-      go Nowhere Nowhere Nowhere _ _ _ f g = tt
+      go None None None _ _ _ f g = tt
 
   -- so it did not survive
   pub fails_lost : (axis : Axis) (side : Side) → Fails axis side → survives S k box ≡ false

@@ -8,12 +8,12 @@ use native.Mathlib.Nat.{le_trans}
 use native.Mathlib.Omega.{arith}
 use lib.ListN.{length}
 use lib.Dec.{T, leb, ltb→lt}
+use Rattle.std.specs.Prelude.{Option, None, Some as Missed}
 use Rattle.rules.specs.declared.Three.{Three}
 use Rattle.rules.specs.declared.Corner.{Corner}
 use Rattle.rules.specs.declared.Answer.{Answer}
 use Rattle.rules.specs.declared.Parameter.{Parameter}
 use Rattle.rules.specs.declared.Miss.{Miss}
-use Rattle.rules.specs.declared.Miss.TheVariants.{Nowhere, On}
 use Rattle.rules.specs.declared.Ruling.{Ruling}
 use Rattle.rules.specs.declared.Ruling.TheVariants.{Discarded, Refused}
 use Rattle.rules.specs.Search.{Query, Box, Depths, survives, Checked, check, those, split, deeper, low_half, high_half, inside, halves, if_room, after_level, levels, origin, run}
@@ -72,9 +72,9 @@ module _ (S : Query) (at : Three) where
       in_time = ahead_of S at k (levels more S) (check S k boxes false c n) W.ahead
 
       -- it is discarded
-      ends : (m : Miss) → Says S k b m → (rest : Ruling) → (T (survives S k b) → Rules rest) → Rules (name_or m (stop k b) rest)
-      ends Nowhere e rest f = f e
-      ends (On axis side) e rest f =
+      ends : (m : Option Miss) → Says S k b m → (rest : Ruling) → (T (survives S k b) → Rules rest) → Rules (name_or m (stop k b) rest)
+      ends None e rest f = f e
+      ends (Missed m) e rest f =
           record {
             holds = holds_in at W.holds;
             discarded =
@@ -85,9 +85,9 @@ module _ (S : Query) (at : Three) where
                   count = n;
                   comes = W.comes;
                   checked = reached S at k b W.holds.t.from boxes false c n W.ascending W.among W.recorded in_time;
-                  lost = fails_lost S k b axis side e;
+                  lost = fails_lost S k b m.axis m.side e;
                 };
-            beyond = fails_beyond S k b H axis side e;
+            beyond = fails_beyond S k b H m.axis m.side e;
           }
 
       -- or it survives, and the level goes on

@@ -5,12 +5,12 @@ use Prim.Native.Nat.{ℕ, zero, suc, ◌+◌, ◌*◌, ◌≤◌, ◌<◌}
 use native.Mathlib.Nat.{le_trans, le_of_lt, mul-le-mul_left}
 use native.Mathlib.Omega.{arith}
 use lib.Dec.{T, eqb, eqb→eq, leb→le, nleb→lt}
+use Rattle.std.specs.Prelude.{Option, Some, None}
 use Rattle.rules.specs.declared.Three.{Three}
 use Rattle.rules.specs.declared.Parameter.{Parameter}
 use Rattle.rules.specs.declared.Parameter.TheVariants.{InT, InU, InV}
 use Rattle.rules.specs.declared.Axis.{Axis}
 use Rattle.rules.specs.declared.Miss.{Miss}
-use Rattle.rules.specs.declared.Miss.TheVariants.{Nowhere, On}
 use Rattle.rules.specs.declared.Stop.{Stop}
 use Rattle.rules.specs.declared.Reason.{Reason}
 use Rattle.rules.specs.declared.Ruling.{Ruling}
@@ -133,10 +133,10 @@ module _ (at : Three) where
     FirstOf most s (Discarded x) = FirstFrom most s x
     FirstOf most s (Refused n) = Unit {0}
 
-    here : (most : ℕ) (s : Stop) (m : Miss) (rest : Ruling) → Says S s.depths s.index m → Before S s.depths s.index m → (T (survives S s.depths s.index) → FirstOf most s rest) → FirstOf most s (name_or m s rest)
+    here : (most : ℕ) (s : Stop) (m : Option Miss) (rest : Ruling) → Says S s.depths s.index m → Before S s.depths s.index m → (T (survives S s.depths s.index) → FirstOf most s rest) → FirstOf most s (name_or m s rest)
     unfolding down
-    here most s Nowhere rest e b f = f e
-    here most s (On axis side) rest e b f =
+    here most s None rest e b f = f e
+    here most s (Some m) rest e b f =
         record { steps = 0; few = omega arith; there = refl; far = omega arith; level = refl; survived = λ n h. absurd (omega arith); axes = b }
 
     further : (most : ℕ) (s : Stop) (a : Ruling) → T (survives S s.depths s.index) → FirstOf most (half_of S at s) a → FirstOf (suc most) s a

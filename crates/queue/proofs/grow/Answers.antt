@@ -5,24 +5,24 @@ use Rattle.queue.proofs.grow.Goals as goal
 
 pub returns-then-word-c : goal.returns-then-word-c
 returns-then-word-c c =
-    grown_level c.args.p c.args.k c.args.split c.args.n c.args.queue.now c.requires c.halving_of-c.result c.halving_of-c.ensures c.loop-p.queue c.loop-p.low c.loop-p.high c.loop-p.m c.loop-p.invariant c.lesser-word.result c.lesser-word.ensures c.if-word-c.true
+    grown_level c.requires c.halving_of-c.ensures c.loop-p.invariant c.min-word.ensures c.if-word-c.true
 
-pub take_half-next-requires : goal.take_half-next-requires
-take_half-next-requires c =
-    takes c.args.p c.args.k c.args.split c.args.n c.args.queue.now c.requires c.halving_of-c.result c.halving_of-c.ensures c.loop-p.queue c.loop-p.low c.loop-p.high c.loop-p.m c.loop-p.invariant c.lesser-word.result c.lesser-word.ensures (omega (arith, c.if-word-c.false))
+pub take_half-requires : goal.take_half-requires
+take_half-requires c =
+    takes c.requires c.halving_of-c.ensures c.loop-p.invariant c.min-word.ensures (omega (arith, c.if-word-c.false))
 
 pub in_face-requires : goal.in_face-requires
 in_face-requires c =
-    (c.requires.shallow, rw c.unpack-b.ensures (in_grid c.args.p c.args.k c.args.split c.args.n c.args.queue.now c.requires c.halving_of-c.result c.halving_of-c.ensures c.loop-p.queue c.loop-p.low c.loop-p.high c.loop-p.m c.loop-p.invariant c.lesser-word.result c.lesser-word.ensures (omega (arith, c.if-word-c.false)) c.take_half-next.result c.take_half-next.ensures))
+    (c.requires.shallow, rw c.unpack-b.ensures (in_grid c.requires c.halving_of-c.ensures c.loop-p.invariant c.min-word.ensures (omega (arith, c.if-word-c.false)) c.take_half.result c.take_half.ensures))
 
 pub returns-then-m-h : goal.returns-then-m-h
 returns-then-m-h c =
-    grown_room c.args.p c.args.k c.args.split c.args.n c.args.queue.now c.requires c.halving_of-c.result c.halving_of-c.ensures c.loop-p.queue c.loop-p.low c.loop-p.high c.loop-p.m c.loop-p.invariant c.lesser-word.result c.lesser-word.ensures (omega (arith, c.if-word-c.false)) c.take_half-next.result c.take_half-next.ensures (rw c.unpack-b.ensures at (sym c.in_face.ensures ∙ c.if-in_face.true)) c.if-m-h.true
+    grown_room c.requires c.halving_of-c.ensures c.loop-p.invariant c.min-word.ensures (omega (arith, c.if-word-c.false)) c.take_half.result c.take_half.ensures (rw c.unpack-b.ensures at (sym c.in_face.ensures ∙ c.if-in_face.true)) c.if-m-h.true
 
 pub loop-p-preserved-then-in_face : goal.loop-p-preserved-then-in_face
 loop-p-preserved-then-in_face c =
-    written_put c.args.p c.args.k c.args.split c.args.n c.args.queue.now c.requires c.halving_of-c.result c.halving_of-c.ensures c.loop-p.queue c.loop-p.low c.loop-p.high c.loop-p.m c.loop-p.invariant c.lesser-word.result c.lesser-word.ensures (omega (arith, c.if-word-c.false)) c.take_half-next.result c.take_half-next.ensures (rw c.unpack-b.ensures at (sym c.in_face.ensures ∙ c.if-in_face.true)) (omega (arith, c.loop-p.invariant.room, c.if-m-h.false))
+    written_put c.requires c.halving_of-c.ensures c.loop-p.invariant c.min-word.ensures (omega (arith, c.if-word-c.false)) c.take_half.result c.take_half.ensures (rw c.unpack-b.ensures at (sym c.in_face.ensures ∙ c.if-in_face.true)) (omega (arith, c.loop-p.invariant.room, c.if-m-h.false))
 
 pub loop-p-preserved : goal.loop-p-preserved
 loop-p-preserved c =
-    written_pass c.args.p c.args.k c.args.split c.args.n c.args.queue.now c.requires c.halving_of-c.result c.halving_of-c.ensures c.loop-p.queue c.loop-p.low c.loop-p.high c.loop-p.m c.loop-p.invariant c.lesser-word.result c.lesser-word.ensures (omega (arith, c.if-word-c.false)) c.take_half-next.result c.take_half-next.ensures (rw c.unpack-b.ensures at (sym c.in_face.ensures ∙ c.if-in_face.false))
+    written_pass c.requires c.halving_of-c.ensures c.loop-p.invariant c.min-word.ensures (omega (arith, c.if-word-c.false)) c.take_half.result c.take_half.ensures (rw c.unpack-b.ensures at (sym c.in_face.ensures ∙ c.if-in_face.false))

@@ -4,4 +4,4 @@ use Rattle.queue.proofs.half_at.Goals as goal
 
 pub returns-then-at-n : goal.returns-then-at-n
 returns-then-at-n c =
-    (refl, half_there c.args.c c.args.high c.args.queue.now c.args.n c.args.at c.requires.0 c.requires.1 c.if-at-n.true _ c.half_by.ensures)
+    (refl, half_there c.args.high c.requires.0 c.requires.1 c.if-at-n.true _ c.half_by.ensures)

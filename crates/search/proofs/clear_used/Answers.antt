@@ -4,5 +4,5 @@ use Rattle.search.proofs.clear_used.Goals as goal
 
 pub returns : goal.returns
 returns c =
-    all_cleared c.args.h c.args.used c.args.queue.now c.clear_part.new.words c.clear_part-2.new.words c.requires.0 c.requires.1
-    c.requires.2 c.clear_part.auto.words (c.clear_part-2.auto.words ∙ c.clear_part.auto.words) c.clear_part.ensures c.clear_part-2.ensures
+    all_cleared c.requires.0 c.requires.1 c.requires.2 c.clear_part.auto.words (c.clear_part-2.auto.words ∙ c.clear_part.auto.words)
+    c.clear_part.ensures c.clear_part-2.ensures

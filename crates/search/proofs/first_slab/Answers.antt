@@ -1,20 +1,13 @@
 use native.Mathlib.Omega.{arith}
-use lib.Pow.{pow_pos}
 use Rattle.gap.specs.Slab.{slab_own}
 use Rattle.queue.specs.All.{all_front}
 use Rattle.queue.specs.Level.{OfLevel}
 use Rattle.search.proofs.first_slab.Goals as goal
 
--- The first word of a level is a box of it.
-pub slab_at-requires : goal.slab_at-requires
-slab_at-requires c = (c.requires.ranged, (c.requires.shallow, pow_pos _))
-
 pub returns-then-n-eq0 : goal.returns-then-n-eq0
 returns-then-n-eq0 c = slab_own c.args.p c.args.k _ _ c.slab_at.ensures
 
-pub bounds-queue-0 : goal.bounds-queue-0
-bounds-queue-0 c = omega (arith, c.requires.fits, c.if-n-eq0.false)
-
+-- The first word of a level is a box of it.
 pub slab_at-requires-2 : goal.slab_at-requires-2
 slab_at-requires-2 c =
     let g = all_front (OfLevel c.args.k) c.args.queue.now c.args.n 0 c.requires.fits c.requires.grid (omega (arith, c.if-n-eq0.false)) in

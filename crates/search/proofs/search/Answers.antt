@@ -1,22 +1,20 @@
-use mathlib.Core.Path.{sym, ap, ◌∙◌}
-use Prim.Native.Nat.{ℕ}
-use lib.ListN.{length, replicate}
+use Rattle.std.proofs.Common.{ℕ, sym, ap, ◌∙◌, length}
+use Rattle.std.specs.Prelude.{replicate}
+use Rattle.refusals.specs.Numbered.{not_zero}
 use Rattle.rules.specs.Refusals.{search_refusal}
 use Rattle.rules.specs.Search.{search as searched}
 use Rattle.search.proofs.Running.{search_refused, after_refusal, after_answer}
-use native.Mathlib.Omega.{arith}
 use Rattle.search.proofs.search.Goals as goal
 
-pub returns-then-number-ne0 : goal.returns-then-number-ne0
-returns-then-number-ne0 c =
-    let e = search_refused c.args.r (length c.args.queue.now) c.search_refusal-number.result c.search_refusal-number.ensures c.if-number-ne0.true in
-    record { value = e; queue_after = after_refusal c.args.r (length c.args.queue.now) c.search_refusal-number.result c.args.queue.now e }
+pub returns-in-Err : goal.returns-in-Err
+returns-in-Err c =
+    let e = search_refused c.args.r (length c.args.queue.now) c.number.result (c.number.ensures ∙ c.in-Err.ensures) (λ z. not_zero c.in-Err.refusal (sym c.number.ensures ∙ z)) in
+    record { value = e; queue_after = after_refusal c.args.r (length c.args.queue.now) c.number.result c.args.queue.now e }
 
 pub search_accepted-requires : goal.search_accepted-requires
 search_accepted-requires c =
-    let n = ap (λ (words : ℕ). search_refusal c.args.r words) c.clear.auto.words in
     record {
-      none = n ∙ sym c.search_refusal-number.ensures ∙ omega (arith, c.if-number-ne0.false);
+      none = ap (λ (words : ℕ). search_refusal c.args.r words) c.clear.auto.words ∙ sym (c.in_default.ensures);
       zero = c.clear.ensures ∙ ap (λ (n : ℕ). replicate n 0) (sym c.clear.auto.words);
     }
 

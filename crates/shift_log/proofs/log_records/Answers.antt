@@ -12,7 +12,7 @@ loop-i-init c = walked_none bytes_of _ _ _ _ _ _
 
 pub place_of-at-requires : goal.place_of-at-requires
 place_of-at-requires c =
-    omega (arith, record_within (record_size c.args.edition) c.args.first c.args.count c.loop-i.i (length c.args.file.now) (omega arith) c.requires.0)
+    omega (arith, record_within (record_size c.args.records.edition) c.args.records.first c.args.records.count c.loop-i.i (length c.args.file.now) (omega arith) c.requires.0)
 
 pub overflow_mul-i : goal.overflow_mul-i
 overflow_mul-i c = omega arith
@@ -20,16 +20,10 @@ overflow_mul-i c = omega arith
 pub log_at-clean-requires : goal.log_at-clean-requires
 log_at-clean-requires c =
     record {
-      there = omega (arith, c.place_of-at.ensures, record_within (record_size c.args.edition) c.args.first c.args.count c.loop-i.i (length c.args.file.now) (omega arith) c.requires.0);
+      there = omega (arith, c.place_of-at.ensures, record_within (record_size c.args.records.edition) c.args.records.first c.args.records.count c.loop-i.i (length c.args.file.now) (omega arith) c.requires.0);
       room = omega (arith, c.loop-i.invariant.numbers);
       zero = c.loop-i.invariant.zero;
     }
-
-pub overflow_add-i : goal.overflow_add-i
-overflow_add-i c = omega arith
-
-pub loop-i-smaller : goal.loop-i-smaller
-loop-i-smaller c = omega arith
 
 pub loop-i-preserved : goal.loop-i-preserved
 loop-i-preserved c =

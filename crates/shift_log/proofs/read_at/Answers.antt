@@ -1,42 +1,25 @@
-use Prim.Native.Nat.{ℕ}
-use mathlib.Core.Path.{◌≡◌, sym, ap, ◌∙◌}
-use mathlib.Core.Bool.{cond}
-use native.Mathlib.Omega.{arith}
-use lib.Dec.{ltb}
-use lib.ListN.{length}
-use Rattle.rules.specs.declared.Told.{Told}
-use Rattle.rules.specs.QueryFile.{word, put}
-use Rattle.rules.specs.AnswerFile.{told_at, word_cases}
-use Rattle.refusals.specs.Cases.{first_or}
+-- `shift_log::read_at` meets its contract: 16's table, then 14. Assumes nothing.
+use Rattle.std.proofs.Common.{◌∙◌, [], ◌∷◌, length, arith}
+use Rattle.std.proofs.lemmas.Result.{err_from_is_err_and}
+use Rattle.rules.specs.AnswerFile.{told_at}
+use Rattle.refusals.specs.Numbered.{not_zero}
 use Rattle.queries.specs.Writing.{refuses_put, does_put}
-use Rattle.answers.specs.Eight.{eight}
-use Rattle.shift_log.proofs.Refusing.{with_row, room_left}
+use Rattle.answers.specs.Walk.{short}
+use Rattle.shift_log.proofs.Refusing.{wrong_first, right_then, too_few, enough}
 use Rattle.shift_log.proofs.read_at.Goals as goal
 
-pub returns-then-number-ne0 : goal.returns-then-number-ne0
-returns-then-number-ne0 c =
-    let number : c.word_refusal-number.result ≡ first_or (word_cases (told_at c.args.log.now c.args.at)) (cond (ltb (length c.args.out.now) 8) 14 0) =
-    c.word_refusal-number.ensures
-    ∙ ap (λ (x : Told). first_or (word_cases x) c.first-fourteen.result) c.decode-a.ensures
-    ∙ ap (λ (n : ℕ). first_or (word_cases (told_at c.args.log.now c.args.at)) n) c.first-fourteen.ensures in
-    refuses_put c.word_refusal-number.result _ c.args.out.now 0 (number ∙ with_row (told_at c.args.log.now c.args.at) 14 (ltb (length c.args.out.now) 8)) c.if-number-ne0.true
+pub returns-in_err-check_word : goal.returns-in_err-check_word
+returns-in_err-check_word c =
+    let p = err_from_is_err_and c.from_residual.result c.from_residual.ensures.1 in
+    let e = wrong_first (told_at c.args.log.now c.args.at) (short c.args.out.now 8 ∷ []) c.in_err-check_word.field-0.0 (rw c.decode-a.ensures at c.in_err-check_word.ensures) in
+    rw (p.1, p.2) (refuses_put _ _ c.args.out.now 0 e (not_zero c.in_err-check_word.field-0.0))
 
-pub write_eight-requires : goal.write_eight-requires
-write_eight-requires c =
-    let number : c.word_refusal-number.result ≡ first_or (word_cases (told_at c.args.log.now c.args.at)) (cond (ltb (length c.args.out.now) 8) 14 0) =
-    c.word_refusal-number.ensures
-    ∙ ap (λ (x : Told). first_or (word_cases x) c.first-fourteen.result) c.decode-a.ensures
-    ∙ ap (λ (n : ℕ). first_or (word_cases (told_at c.args.log.now c.args.at)) n) c.first-fourteen.ensures in
-    room_left (told_at c.args.log.now c.args.at) (length c.args.out.now) 8 (number) (omega (arith, c.if-number-ne0.false))
+pub returns-then-out-lt8 : goal.returns-then-out-lt8
+returns-then-out-lt8 c =
+    let e = right_then (told_at c.args.log.now c.args.at) (short c.args.out.now 8 ∷ []) (rw c.decode-a.ensures at c.in_ok-check_word.ensures) in
+    refuses_put 14 _ c.args.out.now 0 (too_few (length c.args.out.now) 8 (omega (arith, c.if-out-lt8.true)) ∙ e) (λ z. omega arith)
 
 pub returns : goal.returns
 returns c =
-    let number : c.word_refusal-number.result ≡ first_or (word_cases (told_at c.args.log.now c.args.at)) (cond (ltb (length c.args.out.now) 8) 14 0) =
-    c.word_refusal-number.ensures
-    ∙ ap (λ (x : Told). first_or (word_cases x) c.first-fourteen.result) c.decode-a.ensures
-    ∙ ap (λ (n : ℕ). first_or (word_cases (told_at c.args.log.now c.args.at)) n) c.first-fourteen.ensures in
-    let z : c.word_refusal-number.result ≡ 0 = omega (arith, c.if-number-ne0.false) in
-    does_put (sym z ∙ number ∙ with_row (told_at c.args.log.now c.args.at) 14 (ltb (length c.args.out.now) 8))
-    (c.write_eight.ensures
-    ∙ ap (λ (n : ℕ). put c.args.out.now 0 (eight n c.decode-a.result)) c.read_u32-id.ensures
-    ∙ ap (λ (x : Told). put c.args.out.now 0 (eight (word c.args.log.now c.args.at) x)) c.decode-a.ensures)
+    let e = right_then (told_at c.args.log.now c.args.at) (short c.args.out.now 8 ∷ []) (rw c.decode-a.ensures at c.in_ok-check_word.ensures) in
+    does_put (enough (length c.args.out.now) 8 (omega (arith, c.if-out-lt8.false)) ∙ e) (rw (c.read_u32.ensures, c.decode-a.ensures) at c.write_eight.ensures)

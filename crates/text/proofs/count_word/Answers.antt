@@ -5,7 +5,7 @@ use Rattle.text.proofs.count_word.Goals as goal
 
 pub loop-i-preserved : goal.loop-i-preserved
 loop-i-preserved c =
-    counted_more c.args.told.now c.args.n c.args.k c.loop-i.invariant (omega arith) c.one_of-sum.ensures
+    counted_more c.args.told.now c.args.n c.args.k c.loop-i.invariant (omega arith) (rw c.kind.ensures at c.from-sum.ensures)
 
 pub returns : goal.returns
 returns c =

@@ -16,7 +16,7 @@ drawn file n at words (Refused k) e = tt
 
 pub returns-then-file-gt-MOST : goal.returns-then-file-gt-MOST
 unfolding page_ruling
-returns-then-file-gt-MOST c = rw (lt-ltb 65536 (length c.args.file.now) (omega arith)) c.write_ruling.ensures
+returns-then-file-gt-MOST c = rw (lt-ltb 65536 (length c.args.file.now) (omega arith), ← c.number.ensures) c.write_ruling.ensures
 
 pub write_ruling-requires-2 : goal.write_ruling-requires-2
 write_ruling-requires-2 c = (c.requires, drawn c.args.file.now c.args.n c.args.at 4096 _ c.rule-a.ensures.says)

@@ -1,10 +1,7 @@
-use Prim.Native.Nat.{◌-◌, ◌*◌}
-use Rattle.bodies.specs.Passed.{Asunder, Passed}
+use Prim.Native.Nat.{ℕ, ◌<◌}
+use Rattle.bodies.specs.Passed.{Asunder}
 use Rattle.bodies.proofs.apart.is_alone.Given as goal
 
 -- `bodies::apart::is_alone` meets its contract. Assumes nothing.
 abbrev pub invariant-loop-block : goal.invariant-loop-block
-invariant-loop-block l = Passed (Asunder l.w l.r l.bounds) 0 9 l.block
-
-abbrev pub decreases-loop-block : goal.decreases-loop-block
-decreases-loop-block l = l.n - 32 * l.block
+invariant-loop-block l = (x : ℕ) → x < l.block → Asunder l.w l.r l.bounds x

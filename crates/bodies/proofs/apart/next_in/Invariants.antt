@@ -1,4 +1,3 @@
-use Prim.Native.Nat.{◌-◌}
 use Rattle.bodies.specs.Apart.{DistantFrom}
 use Rattle.bodies.specs.Passed.{Passed}
 use Rattle.bodies.proofs.apart.next_in.Given as goal
@@ -6,6 +5,3 @@ use Rattle.bodies.proofs.apart.next_in.Given as goal
 -- `bodies::apart::next_in` meets its contract: triangle after triangle. Assumes nothing.
 abbrev pub invariant-loop-j : goal.invariant-loop-j
 invariant-loop-j l = Passed (DistantFrom l.w l.r l.s l.e) l.from l.n l.j
-
-abbrev pub decreases-loop-j : goal.decreases-loop-j
-decreases-loop-j l = l.n - l.j

@@ -1,4 +1,4 @@
-use mathlib.Core.Path.{sym, ap}
+use mathlib.Core.Path.{sym, ap, ◌∙◌}
 use native.Mathlib.Omega.{arith}
 use Rattle.rules.specs.Bodies.{sum_of, counted}
 use Rattle.bodies.proofs.hearing.counted.Goals as goal
@@ -21,4 +21,4 @@ returns-in-Least c = sym (ap (counted c.args.n) c.in-Least.is)
 
 pub returns-in-Refused : goal.returns-in-Refused
 unfolding counted
-returns-in-Refused c = sym (ap (counted c.args.n) c.in-Refused.is)
+returns-in-Refused c = c.in-Refused.is ∙ sym (ap (counted c.args.n) c.in-Refused.is)

@@ -1,15 +1,21 @@
-use mathlib.Core.Path.{sym, ap}
+use Prim.Native.Nat.{ℕ}
+use mathlib.Core.Path.{◌≡◌, sym, ap}
+use mathlib.Core.Bool.{false}
+use mathlib.Core.Logic.{◌⊎◌, inl, inr}
+use Rattle.rules.specs.declared.BodyAnswer.{BodyAnswer}
+use Rattle.rules.specs.declared.BodyAnswer.TheVariants.{Clear, Refused}
 use Rattle.rules.specs.Bodies.{is_over}
 use Rattle.bodies.proofs.hearing.is_over.Goals as goal
 
-pub returns-in-Clear : goal.returns-in-Clear
+-- where there is no time yet
+none : {x : BodyAnswer} → ((n : ℕ) × (x ≡ Clear n)) ⊎ ((n : ℕ) × (x ≡ Refused n)) → false ≡ is_over x
 unfolding is_over
-returns-in-Clear c = sym (ap is_over c.in-Clear.is)
+none (inl e) = sym (ap is_over e.1)
+none (inr e) = sym (ap is_over e.1)
 
 pub returns-in-Least : goal.returns-in-Least
 unfolding is_over
 returns-in-Least c = sym (ap is_over c.in-Least.is)
 
-pub returns-in-Refused : goal.returns-in-Refused
-unfolding is_over
-returns-in-Refused c = sym (ap is_over c.in-Refused.is)
+pub returns-in-Clear : goal.returns-in-Clear
+returns-in-Clear c = none c.in-Clear.is

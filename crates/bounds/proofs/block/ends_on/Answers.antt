@@ -1,77 +1,34 @@
 use Prim.Native.Nat.{ℕ, ◌+◌, ◌*◌}
-use mathlib.Core.Path.{◌≡◌, refl, sym, ap, subst, ◌∙◌}
-use mathlib.Core.Logic.{inl}
+use mathlib.Core.Path.{◌≡◌, sym, ap, subst, ◌∙◌}
+use mathlib.Core.List.{List}
 use native.Mathlib.Omega.{arith}
-use borrow.Author.Rules.{sfits_of}
-use lib.IntN.{pos}
-use lib.ListN.{get_or}
-use mir.Val.{SFits, to_z}
-use mir.Syntax.{w32}
-use mir.Facts.{to_z-of_z}
+use lib.IntN.{ℤ}
 use Rattle.whole.specs.Defs.{min_z, max_z}
-use Rattle.whole.specs.Read.{back}
+use Rattle.rules.specs.declared.Axis.{Axis}
+use Rattle.rules.specs.Gap.{place}
 use Rattle.rules.specs.Bounds.{over_face}
-use Rattle.bounds.specs.Block.{FaceIn, Picked, picked_more, picked_all, least_absorbs, greatest_absorbs}
+use Rattle.bounds.specs.Block.{Picked, picked_more, picked_all, least_absorbs, greatest_absorbs}
 use Rattle.bounds.proofs.block.ends_on.Goals as goal
 
-pub loop-i-init : goal.loop-i-init
-unfolding min_z max_z
-loop-i-init c =
-    let x : SFits w32 (get_or c.args.s.now (9 * c.args.first + c.args.axis) (pos 0)) = sfits_of c.least-1.given in
-    let y : SFits w32 (get_or c.args.s.now (9 * c.args.first + c.args.axis) (pos 0)) = sfits_of c.greatest-1.given in (
-      omega arith,
-      (
-        omega (arith, c.requires.some),
-        (λ a h. inl (refl, to_z-of_z x ∙ ap (λ (p : ℕ). get_or c.args.s.now (9 * c.args.first + p) (pos 0)) (sym h)), λ a h. inl (refl, to_z-of_z y ∙ ap (λ (p : ℕ). get_or c.args.s.now (9 * c.args.first + p) (pos 0)) (sym h))),
-      ),
-    )
-
-pub triangle_least-requires : goal.triangle_least-requires
-triangle_least-requires c =
-    let faces : FaceIn c.args.s.now (9 * c.loop-i.i + c.args.axis) × FaceIn c.args.e.now (9 * c.loop-i.i + c.args.axis) =
-    let at = 9 * c.loop-i.i + c.args.axis in (
-      record { there = omega (arith, c.requires.start_there, c.requires.is_axis); first = c.requires.start at (omega (arith, c.loop-i.invariant.0)) (omega (arith, c.requires.is_axis)); second = c.requires.start (at + 3) (omega (arith, c.loop-i.invariant.0)) (omega (arith, c.requires.is_axis)); third = c.requires.start (at + 6) (omega (arith, c.loop-i.invariant.0)) (omega (arith, c.requires.is_axis)) },
-      record { there = omega (arith, c.requires.end_there, c.requires.is_axis); first = c.requires.end at (omega (arith, c.loop-i.invariant.0)) (omega (arith, c.requires.is_axis)); second = c.requires.end (at + 3) (omega (arith, c.loop-i.invariant.0)) (omega (arith, c.requires.is_axis)); third = c.requires.end (at + 6) (omega (arith, c.loop-i.invariant.0)) (omega (arith, c.requires.is_axis)) },
-    ) in
-    faces
-
-pub triangle_greatest-requires : goal.triangle_greatest-requires
-triangle_greatest-requires c =
-    let faces : FaceIn c.args.s.now (9 * c.loop-i.i + c.args.axis) × FaceIn c.args.e.now (9 * c.loop-i.i + c.args.axis) =
-    let at = 9 * c.loop-i.i + c.args.axis in (
-      record { there = omega (arith, c.requires.start_there, c.requires.is_axis); first = c.requires.start at (omega (arith, c.loop-i.invariant.0)) (omega (arith, c.requires.is_axis)); second = c.requires.start (at + 3) (omega (arith, c.loop-i.invariant.0)) (omega (arith, c.requires.is_axis)); third = c.requires.start (at + 6) (omega (arith, c.loop-i.invariant.0)) (omega (arith, c.requires.is_axis)) },
-      record { there = omega (arith, c.requires.end_there, c.requires.is_axis); first = c.requires.end at (omega (arith, c.loop-i.invariant.0)) (omega (arith, c.requires.is_axis)); second = c.requires.end (at + 3) (omega (arith, c.loop-i.invariant.0)) (omega (arith, c.requires.is_axis)); third = c.requires.end (at + 6) (omega (arith, c.loop-i.invariant.0)) (omega (arith, c.requires.is_axis)) },
-    ) in
-    faces
+-- one triangle more
+more : (pick : ℤ → ℤ → ℤ) (absorbs : (v1 v2 v3 v4 f : ℤ) → pick v1 (pick (pick (pick v1 v2) (pick v3 v4)) f) ≡ pick (pick (pick v1 v2) (pick v3 v4)) f) (s e : List ℤ) (axis : Axis) (first i : ℕ) (p : ℕ) (z t r : ℤ)
+    → place axis ≡ p → Picked pick s e axis first i z → t ≡ pick (over_face pick s (9 * i + p)) (over_face pick e (9 * i + p)) → r ≡ pick z t → Picked pick s e axis first (i + 1) r
+more pick absorbs s e axis first i p z t r h before one both =
+    subst (Picked pick s e axis first (i + 1))
+    (ap (λ (q : ℕ). pick z (pick (over_face pick s (9 * i + q)) (over_face pick e (9 * i + q)))) h ∙ ap (pick z) (sym one) ∙ sym both)
+    (picked_more pick absorbs s e axis first i z before)
 
 pub loop-i-preserved : goal.loop-i-preserved
-unfolding min_z max_z
-loop-i-preserved c =
-    let low = back w32 c.triangle_least.type_inv c.triangle_least.ensures in
-    let up = back w32 c.triangle_greatest.type_inv c.triangle_greatest.ensures in
-    let lower = back w32 c.lesser-least.type_inv (c.lesser-least.ensures ∙ ap (min_z (to_z w32 c.loop-i.least-bits)) low) in
-    let upper = back w32 c.greater-greatest.type_inv (c.greater-greatest.ensures ∙ ap (max_z (to_z w32 c.loop-i.greatest-bits)) up) in (
-      omega (arith, c.loop-i.invariant.0),
-      (
-        omega arith,
-        (
-          λ x h.
-              subst (Picked min_z c.args.s.now c.args.e.now x c.args.first (c.loop-i.i + 1))
-              (ap (λ (p : ℕ). min_z (to_z w32 c.loop-i.least-bits) (min_z (over_face min_z c.args.s.now (9 * c.loop-i.i + p)) (over_face min_z c.args.e.now (9 * c.loop-i.i + p)))) h ∙ sym lower)
-              (picked_more min_z least_absorbs c.args.s.now c.args.e.now x c.args.first c.loop-i.i (to_z w32 c.loop-i.least-bits) (c.loop-i.invariant.1.1.0 x h)),
-          λ x h.
-              subst (Picked max_z c.args.s.now c.args.e.now x c.args.first (c.loop-i.i + 1))
-              (ap (λ (p : ℕ). max_z (to_z w32 c.loop-i.greatest-bits) (max_z (over_face max_z c.args.s.now (9 * c.loop-i.i + p)) (over_face max_z c.args.e.now (9 * c.loop-i.i + p)))) h ∙ sym upper)
-              (picked_more max_z greatest_absorbs c.args.s.now c.args.e.now x c.args.first c.loop-i.i (to_z w32 c.loop-i.greatest-bits) (c.loop-i.invariant.1.1.1 x h)),
-        ),
-      ),
-    )
+loop-i-preserved c = record {
+  least = λ a h. more min_z least_absorbs c.args.s.now c.args.e.now a c.args.first c.loop-i.i c.args.axis c.loop-i.ends.least _ _ h (c.loop-i.invariant.least a h) c.triangle_ends.ensures.least c.joined-ends.ensures.least;
+  greatest = λ a h. more max_z greatest_absorbs c.args.s.now c.args.e.now a c.args.first c.loop-i.i c.args.axis c.loop-i.ends.greatest _ _ h (c.loop-i.invariant.greatest a h) c.triangle_ends.ensures.greatest c.joined-ends.ensures.greatest;
+}
 
 pub returns : goal.returns
 unfolding min_z max_z
 returns c =
-    let last : c.loop-i.i ≡ c.args.end = omega (arith, c.loop-i.invariant.1.0) in
+    let last : c.loop-i.i ≡ c.args.end = omega (arith, c.requires.some) in
     record {
-      least = λ x h. picked_all min_z least_absorbs c.args.s.now c.args.e.now x c.args.first c.args.end _ c.requires.some (subst (λ (n : ℕ). Picked min_z c.args.s.now c.args.e.now x c.args.first n (to_z w32 c.loop-i.least-bits)) last (c.loop-i.invariant.1.1.0 x h));
-      greatest = λ x h. picked_all max_z greatest_absorbs c.args.s.now c.args.e.now x c.args.first c.args.end _ c.requires.some (subst (λ (n : ℕ). Picked max_z c.args.s.now c.args.e.now x c.args.first n (to_z w32 c.loop-i.greatest-bits)) last (c.loop-i.invariant.1.1.1 x h));
+      least = λ a h. picked_all min_z least_absorbs c.args.s.now c.args.e.now a c.args.first c.args.end _ c.requires.some (subst (λ (n : ℕ). Picked min_z c.args.s.now c.args.e.now a c.args.first n c.loop-i.ends.least) last (c.loop-i.invariant.least a h));
+      greatest = λ a h. picked_all max_z greatest_absorbs c.args.s.now c.args.e.now a c.args.first c.args.end _ c.requires.some (subst (λ (n : ℕ). Picked max_z c.args.s.now c.args.e.now a c.args.first n c.loop-i.ends.greatest) last (c.loop-i.invariant.greatest a h));
     }

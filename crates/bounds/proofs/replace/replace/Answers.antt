@@ -1,23 +1,22 @@
-use mathlib.Core.Path.{◌≡◌, sym, ◌∙◌}
 use native.Mathlib.Omega.{arith}
+use Rattle.std.proofs.Common.{sym}
+use Rattle.std.proofs.lemmas.Result.{err_from_is_err_and}
 use Rattle.rules.specs.Bounds.{block_of, replaced}
 use Rattle.bounds.specs.Reach.{body}
-use Rattle.bounds.specs.Keeping.{exchange_refusal}
 use Rattle.bounds.specs.Ranges.{has_block}
 use Rattle.bounds.specs.Staying.{exchange_taken, replaceable, replaced_known}
 use Rattle.bounds.proofs.Refusing.{refuses_replacing, replaces}
 use Rattle.bounds.proofs.replace.replace.Goals as goal
 
-pub returns-then-number-ne0 : goal.returns-then-number-ne0
-returns-then-number-ne0 c =
-    refuses_replacing c.args.edition (body c.args.count c.args.start.now c.args.end.now) c.args.bounds.now c.args.n c.args.corners.now _ c.replace_refusal-number.ensures c.if-number-ne0.true
+pub returns-in_err-check_replace : goal.returns-in_err-check_replace
+returns-in_err-check_replace c =
+    let p = err_from_is_err_and c.from_residual.result c.from_residual.ensures.1 in
+    rw (p.1, p.2) (refuses_replacing _ c.args.edition (body c.args.count c.args.start.now c.args.end.now) c.args.bounds.now c.args.n c.args.corners.now c.in_err-check_replace.ensures)
 
 pub exchange-requires : goal.exchange-requires
 exchange-requires c =
-    let taken : exchange_refusal c.args.edition (body c.args.count c.args.start.now c.args.end.now) c.args.bounds.now c.args.n c.args.corners.now ≡ 0 =
-    sym c.replace_refusal-number.ensures ∙ c.if-number-ne0.false in
     let m = body c.args.count c.args.start.now c.args.end.now in
-    let h = replaceable c.args.edition m c.args.bounds.now c.args.n c.args.corners.now (exchange_taken c.args.edition m c.args.bounds.now c.args.n c.args.corners.now (taken)) in
+    let h = replaceable c.args.edition m c.args.bounds.now c.args.n c.args.corners.now (exchange_taken c.args.edition m c.args.bounds.now c.args.n c.args.corners.now (sym c.in_ok-check_replace.ensures)) in
     record {
       is_body = h.is_body;
       there = h.there;
@@ -27,7 +26,4 @@ exchange-requires c =
     }
 
 pub returns : goal.returns
-returns c =
-    let taken : exchange_refusal c.args.edition (body c.args.count c.args.start.now c.args.end.now) c.args.bounds.now c.args.n c.args.corners.now ≡ 0 =
-    sym c.replace_refusal-number.ensures ∙ c.if-number-ne0.false in
-    replaces (sym (taken)) c.exchange.ensures
+returns c = replaces c.in_ok-check_replace.ensures c.exchange.ensures

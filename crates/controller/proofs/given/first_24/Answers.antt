@@ -35,42 +35,24 @@ module _ (p numbers : List ℤ) (i : ℕ) (same : take i p ≡ take i numbers) (
   each_next k = subst Each (sym (next k)) (each_more (take i numbers) (get_or numbers i (pos 0)) each f)
 
 pub loop-i-init : goal.loop-i-init
-loop-i-init c = (omega arith, refl, refl, tt)
-
-pub offset_bounds-numbers-i : goal.offset_bounds-numbers-i
-offset_bounds-numbers-i c = omega arith
-
-pub bounds-numbers-i : goal.bounds-numbers-i
-bounds-numbers-i c = omega arith
-
-pub offset_bounds-p-i : goal.offset_bounds-p-i
-offset_bounds-p-i c = omega arith
-
-pub bounds-p-i : goal.bounds-p-i
-bounds-p-i c = omega arith
-
-pub overflow_add-i : goal.overflow_add-i
-overflow_add-i c = omega arith
-
-pub loop-i-smaller : goal.loop-i-smaller
-loop-i-smaller c = omega arith
+loop-i-init c = record { long = refl; same = refl; each = tt }
 
 pub loop-i-preserved : goal.loop-i-preserved
 loop-i-preserved c =
-    let f = sfits_of c.p-1.given in (
-      omega arith,
-      simp length-set c.loop-i.invariant.1,
-      more c.loop-i.p c.args.numbers.now c.loop-i.i c.loop-i.invariant.2 c.loop-i.invariant.3 f (omega arith) (omega arith),
-      each_next c.loop-i.p c.args.numbers.now c.loop-i.i c.loop-i.invariant.2 c.loop-i.invariant.3 f (omega arith),
-    )
+    let f = sfits_of c.p-1.given in
+    record {
+      long = simp length-set c.loop-i.invariant.long;
+      same = more c.loop-i.p c.args.numbers.now c.loop-i.i c.loop-i.invariant.same c.loop-i.invariant.each f (omega arith) (omega arith);
+      each = each_next c.loop-i.p c.args.numbers.now c.loop-i.i c.loop-i.invariant.same c.loop-i.invariant.each f (omega arith);
+    }
 
 pub returns : goal.returns
 returns c =
     let e : 24 ≡ c.loop-i.i = omega arith in
     let n : c.loop-i.i ≡ length c.loop-i.p = omega arith in
     let same : c.loop-i.p ≡ take 24 c.args.numbers.now =
-    sym (ap (λ (k : ℕ). take k c.loop-i.p) n ∙ take-length c.loop-i.p) ∙ c.loop-i.invariant.2 ∙ ap (λ (k : ℕ). take k c.args.numbers.now) (sym e) in
+    sym (ap (λ (k : ℕ). take k c.loop-i.p) n ∙ take-length c.loop-i.p) ∙ c.loop-i.invariant.same ∙ ap (λ (k : ℕ). take k c.args.numbers.now) (sym e) in
     record {
       value = same;
-      each = subst Each (sym same) (subst (λ (k : ℕ). Each (take k c.args.numbers.now)) (sym e) c.loop-i.invariant.3);
+      each = subst Each (sym same) (subst (λ (k : ℕ). Each (take k c.args.numbers.now)) (sym e) c.loop-i.invariant.each);
     }

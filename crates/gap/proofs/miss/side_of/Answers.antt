@@ -3,6 +3,7 @@ use lib.IntN.{ℤ, pos, neg_ℤ, ◌-ℤ◌, +ℤ_idl}
 use mir.Syntax.{w64}
 use mir.Val.{SFits}
 use mir.Facts.{to_z-of_z}
+use Rattle.whole.specs.Order.{lt_z_true, lt_z_false, le_le_z, lt_le_z}
 use Rattle.whole.specs.Within.{Within, fits, within_sub, within_pos}
 use Rattle.gap.specs.Miss.{side_of}
 use Rattle.gap.specs.Steps.{term_most}
@@ -19,18 +20,24 @@ pub returns-then-limit-s : goal.returns-then-limit-s
 unfolding side_of
 returns-then-limit-s c =
     let m : SFits w64 c.args.s.least = search rules in
-    let g : SFits w64 c.args.s.greatest = search rules in
-    rw (rw (to_z-of_z m, to_z-of_z (fits tt c.requires)) at c.if-s-limit.true, rw (to_z-of_z g, to_z-of_z (fits tt c.requires), to_z-of_z (minus_fits c.requires), +ℤ_idl (neg_ℤ c.args.limit)) at c.if-limit-s.true)
+    rw (lt_le_z _ _ (lt_z_true _ _ (rw (to_z-of_z m, to_z-of_z (fits tt c.requires)) at c.if-limit-s.true)))
 
-pub returns-else-limit-s : goal.returns-else-limit-s
+pub returns-then-s-limit : goal.returns-then-s-limit
 unfolding side_of
-returns-else-limit-s c =
+returns-then-s-limit c =
     let m : SFits w64 c.args.s.least = search rules in
     let g : SFits w64 c.args.s.greatest = search rules in
-    rw (rw (to_z-of_z m, to_z-of_z (fits tt c.requires)) at c.if-s-limit.true, rw (to_z-of_z g, to_z-of_z (fits tt c.requires), to_z-of_z (minus_fits c.requires), +ℤ_idl (neg_ℤ c.args.limit)) at c.if-limit-s.false)
+    rw (
+      le_le_z _ _ (lt_z_false _ _ (rw (to_z-of_z m, to_z-of_z (fits tt c.requires)) at c.if-limit-s.false)),
+      lt_le_z _ _ (lt_z_true _ _ (rw (to_z-of_z g, to_z-of_z (fits tt c.requires), to_z-of_z (minus_fits c.requires), +ℤ_idl (neg_ℤ c.args.limit)) at c.if-s-limit.true)),
+    )
 
 pub returns-else-s-limit : goal.returns-else-s-limit
 unfolding side_of
 returns-else-s-limit c =
     let m : SFits w64 c.args.s.least = search rules in
-    rw (rw (to_z-of_z m, to_z-of_z (fits tt c.requires)) at c.if-s-limit.false)
+    let g : SFits w64 c.args.s.greatest = search rules in
+    rw (
+      le_le_z _ _ (lt_z_false _ _ (rw (to_z-of_z m, to_z-of_z (fits tt c.requires)) at c.if-limit-s.false)),
+      le_le_z _ _ (lt_z_false _ _ (rw (to_z-of_z g, to_z-of_z (fits tt c.requires), to_z-of_z (minus_fits c.requires), +ℤ_idl (neg_ℤ c.args.limit)) at c.if-s-limit.false)),
+    )

@@ -3,14 +3,6 @@ use Rattle.whole.specs.Within.{within_add, fits}
 use Rattle.gap.specs.Steps.{read_part}
 use Rattle.gap.proofs.slab.along.Goals as goal
 
-pub overflow_mul-result : goal.overflow_mul-result
-overflow_mul-result c =
-    rw (read_part c.requires.u_most, to_z-of_z (fits tt c.requires.by_u)) (fits tt c.requires.along_u)
-
-pub overflow_mul-result-2 : goal.overflow_mul-result-2
-overflow_mul-result-2 c =
-    rw (read_part c.requires.v_most, to_z-of_z (fits tt c.requires.by_v)) (fits tt c.requires.along_v)
-
 pub overflow_add-result : goal.overflow_add-result
 overflow_add-result c =
     rw (read_part c.requires.u_most, to_z-of_z (fits tt c.requires.by_u), to_z-of_z (fits tt c.requires.along_u), read_part c.requires.v_most, to_z-of_z (fits tt c.requires.by_v), to_z-of_z (fits tt c.requires.along_v))

@@ -1,7 +1,7 @@
 use mathlib.Core.Path.{◌≡◌}
 use Prim.Native.Nat.{ℕ, ◌*◌, ◌%◌, ◌≤◌}
 use native.Mathlib.Omega.{arith}
-use borrow.Author.Tests.{eq-eqb, ne_eqb}
+use borrow.Author.Tests.{ne_eqb}
 use Rattle.rules.specs.Search.{side}
 use Rattle.gap.specs.Spread.{spread_most, weight_most}
 use Rattle.gap.proofs.weigh.weight.Goals as goal
@@ -10,12 +10,6 @@ use Rattle.gap.proofs.weigh.weight.Goals as goal
 -- nothing is shifted out
 exact : {n : ℕ} (k : ℕ) → n ≤ spread_most → (n * side k) % 18446744073709551616 ≡ n * side k
 exact k h = omega (arith, weight_most k h)
-
-pub overflow_add-result : goal.overflow_add-result
-overflow_add-result c = omega (arith, weight_most c.args.k c.requires.0)
-
-pub returns-then-k-deepest : goal.returns-then-k-deepest
-returns-then-k-deepest c = rw (eq-eqb _ _ c.if-k-deepest.true)
 
 pub returns-else-k-deepest : goal.returns-else-k-deepest
 returns-else-k-deepest c = rw (ne_eqb _ _ c.if-k-deepest.false, exact c.args.k c.requires.0)

@@ -1,4 +1,3 @@
-use Prim.Native.Nat.{◌≤◌, ◌-◌}
 use mathlib.Core.Path.{◌≡◌}
 use lib.ListN.{length, take}
 use Rattle.rules.specs.QueryFile.{coordinates_at}
@@ -6,7 +5,4 @@ use Rattle.queries.proofs.record.read_points.Given as goal
 
 -- `queries::record::read_points` meets its contract: the first i are those that stand there. Assumes nothing.
 abbrev pub invariant-loop-i : goal.invariant-loop-i
-invariant-loop-i l = (l.i ≤ 24) × (length l.p ≡ 24) × (take l.i l.p ≡ coordinates_at l.s l.at l.i)
-
-abbrev pub decreases-loop-i : goal.decreases-loop-i
-decreases-loop-i l = 24 - l.i
+invariant-loop-i l = (length l.p ≡ 24) × (take l.i l.p ≡ coordinates_at l.s l.at l.i)

@@ -1,49 +1,43 @@
-use mathlib.Core.Path.{◌≡◌, sym, ap, ◌∙◌}
-use mathlib.Core.Bool.{Bool, cond, not}
-use native.Mathlib.Omega.{arith}
-use Rattle.rules.specs.declared.Form.{Form}
-use Rattle.rules.specs.QueryFile.{open_refusal, opened}
+-- The answer file's own refusals, then the counts, then the ids.
+use Rattle.std.proofs.Common.{Bool, cond, not, ◌∙◌, sym, ap, arith}
+use Rattle.std.proofs.lemmas.Result.{err_from_is_err_and}
+use Rattle.rules.specs.QueryFile.{is_wide}
 use Rattle.rules.specs.AnswerFile.{answer_form}
 use Rattle.queries.specs.Opening.{Holds, opened_records, opened_refused}
-use Rattle.shift_log.specs.Calls.{match_rest}
-use Rattle.shift_log.proofs.Ids.{rest_refused, rest_counts, rest_ids}
+use Rattle.shift_log.proofs.Ids.{eight_least, rest_refused, rest_counts, rest_ids}
 use Rattle.shift_log.proofs.matching.match_log.Goals as goal
+use Rattle.shift_log.proofs.matching.match_log.Goals.{In_ok-answers, else-queries-answers-via-then-queries-answers+else-same_ids, else-queries-answers-via-else-queries-answers}
 
-pub returns-then-count-answers : goal.returns-then-count-answers
-returns-then-count-answers c =
-    let holds : Holds answer_form c.args.log.now c.in-Records.edition c.in-Records.to c.in-Records.answers =
-    opened_records answer_form c.args.log.now _ _ _ (sym (c.open_form-o.ensures ∙ ap (λ (f : Form). opened f c.args.log.now) c.answer_form-form.ensures) ∙ c.in-Records.is) in
-    let h = holds in
-    rest_counts c.args.size c.args.s.now c.args.first c.args.count c.args.log.now h.none (λ e. c.if-count-answers.true (e ∙ sym h.counts))
+holds : (c : In_ok-answers) → Holds answer_form c.args.log.now c.in_ok-answers.answers.edition c.in_ok-answers.answers.first c.in_ok-answers.answers.count
+holds c = opened_records answer_form c.args.log.now c.in_ok-answers.answers (sym (rw c.answer_form.ensures at c.in_ok-answers.ensures))
 
-pub same_ids-same-requires : goal.same_ids-same-requires
-same_ids-same-requires c =
-    let holds : Holds answer_form c.args.log.now c.in-Records.edition c.in-Records.to c.in-Records.answers =
-    opened_records answer_form c.args.log.now _ _ _ (sym (c.open_form-o.ensures ∙ ap (λ (f : Form). opened f c.args.log.now) c.answer_form-form.ensures) ∙ c.in-Records.is) in
-    let h = holds in
-    (c.requires.0, c.requires.1, omega (arith, h.ends, c.if-count-answers.false))
+pub returns-in_err-answers : goal.returns-in_err-answers
+returns-in_err-answers c =
+    let p = err_from_is_err_and c.from_residual.result c.from_residual.ensures.1 in
+    let h = opened_refused answer_form c.args.log.now _ (sym (rw c.answer_form.ensures at c.in_err-answers.ensures)) in
+    rw (p.1, p.2) (rest_refused _ c.args.s.now c.args.queries.first c.args.queries.count c.args.log.now _ h.0 h.1)
 
-pub returns-in-Refused : goal.returns-in-Refused
-returns-in-Refused c =
-    let refused : (open_refusal answer_form c.args.log.now ≡ c.in-Refused.number) × (c.in-Refused.number ≡ 0 → ⊥) =
-    opened_refused answer_form c.args.log.now _ (sym (c.open_form-o.ensures ∙ ap (λ (f : Form). opened f c.args.log.now) c.answer_form-form.ensures) ∙ c.in-Refused.is) in
-    let h = refused in
-    rest_refused c.args.size c.args.s.now c.args.first c.args.count c.args.log.now _ h.0 h.1
+pub same_ids-requires : goal.same_ids-requires
+same_ids-requires c =
+    let h = holds ((goal.at.same_ids-requires c).In_ok-answers) in (
+      rw c.record_size-size.ensures (eight_least (is_wide c.args.queries.edition)),
+      rw (c.record_size-size.ensures, ← c.if-queries-answers.true) c.requires,
+      omega (arith, h.ends),
+    )
 
-pub returns-then-same : goal.returns-then-same
-returns-then-same c =
-    let holds : Holds answer_form c.args.log.now c.in-Records.edition c.in-Records.to c.in-Records.answers =
-    opened_records answer_form c.args.log.now _ _ _ (sym (c.open_form-o.ensures ∙ ap (λ (f : Form). opened f c.args.log.now) c.answer_form-form.ensures) ∙ c.in-Records.is) in
-    let agrees : cond (not c.same_ids-same.result) 17 0 ≡ match_rest c.args.size c.args.s.now c.args.first c.args.count c.args.log.now =
-    let h = holds in
-    rest_ids c.args.size c.args.s.now c.args.first c.args.count c.args.log.now c.same_ids-same.result h.none (c.if-count-answers.false ∙ h.counts) (omega (arith, h.starts)) c.same_ids-same.ensures in
-    ap (λ (x : Bool). cond (not x) 17 0) (sym c.if-same.true) ∙ agrees
+pub returns-then-same_ids : goal.returns-then-same_ids
+returns-then-same_ids c =
+    let h = holds ((goal.at.returns-then-same_ids c).In_ok-answers) in
+    ap (λ (x : Bool). cond (not x) 17 0) (sym c.if-same_ids.true)
+    ∙ rest_ids _ c.args.s.now c.args.queries.first c.args.queries.count c.args.log.now h c.if-queries-answers.true c.record_size-size.ensures c.same_ids.ensures
 
-pub returns-else-same : goal.returns-else-same
-returns-else-same c =
-    let holds : Holds answer_form c.args.log.now c.in-Records.edition c.in-Records.to c.in-Records.answers =
-    opened_records answer_form c.args.log.now _ _ _ (sym (c.open_form-o.ensures ∙ ap (λ (f : Form). opened f c.args.log.now) c.answer_form-form.ensures) ∙ c.in-Records.is) in
-    let agrees : cond (not c.same_ids-same.result) 17 0 ≡ match_rest c.args.size c.args.s.now c.args.first c.args.count c.args.log.now =
-    let h = holds in
-    rest_ids c.args.size c.args.s.now c.args.first c.args.count c.args.log.now c.same_ids-same.result h.none (c.if-count-answers.false ∙ h.counts) (omega (arith, h.starts)) c.same_ids-same.ensures in
-    ap (λ (x : Bool). cond (not x) 17 0) (sym c.if-same.false) ∙ agrees
+pub returns-else-queries-answers : goal.returns-else-queries-answers
+returns-else-queries-answers c =
+    let h = holds ((goal.at.returns-else-queries-answers c).In_ok-answers) in
+    elim c.else-queries-answers.branch [
+      | else-queries-answers-via-then-queries-answers+else-same_ids w ↦
+          ap (λ (x : Bool). cond (not x) 17 0) (sym w.if-same_ids.false)
+          ∙ rest_ids _ c.args.s.now c.args.queries.first c.args.queries.count c.args.log.now h w.if-queries-answers.true c.record_size-size.ensures w.same_ids.ensures
+      | else-queries-answers-via-else-queries-answers w ↦
+          rest_counts _ c.args.s.now c.args.queries.first c.args.queries.count c.args.log.now h w.if-queries-answers.false
+    ]

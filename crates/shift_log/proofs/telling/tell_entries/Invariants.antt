@@ -1,10 +1,6 @@
-use Prim.Native.Nat.{◌-◌}
 use Rattle.shift_log.proofs.Every.{ToldSoFar}
 use Rattle.shift_log.proofs.telling.tell_entries.Given as goal
 
 -- `shift_log::telling::tell_entries` meets its contract: answer after answer. Assumes nothing.
 abbrev pub invariant-loop-i : goal.invariant-loop-i
 invariant-loop-i l = ToldSoFar l.log l.first l.count l.initial.out l.out l.i
-
-abbrev pub decreases-loop-i : goal.decreases-loop-i
-decreases-loop-i l = l.count - l.i
