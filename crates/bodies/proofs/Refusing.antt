@@ -22,13 +22,13 @@ use Rattle.bodies.specs.Check.{is_right, one_pass, one_pass_lem}
 pub both : {x y u v : Bool} → x ≡ u → y ≡ v → (x && y) ≡ (u && v)
 both {x = x} {y = y} {u = u} {v = v} e f = ap (λ (z : Bool). z && y) e ∙ ap (λ (z : Bool). u && z) f
 
+pub or_else_lem : (n m : ℕ) → (n ≡ 0 → ⊥) → or_else n m ≡ n
+or_else_lem zero m h = absurd (h refl)
+or_else_lem (suc n) m h = refl
+
 -- a refusal comes before any other
 pub comes_first : (r : Refusal) (m : ℕ) → or_else (number_of r) m ≡ number_of r
-comes_first r m = by (number_of r) (not_zero r)
-  where
-    by : (n : ℕ) → (n ≡ 0 → ⊥) → or_else n m ≡ n
-    by zero h = absurd (h refl)
-    by (suc n) h = refl
+comes_first r m = or_else_lem (number_of r) m (not_zero r)
 
 module _ (w : Terms) (a b : Body) (words : ℕ) where
   pub no_bodies : (is_body a && is_body b) ≡ false → 21 ≡ body_refusal w a b words
@@ -43,8 +43,12 @@ module _ (w : Terms) (a b : Body) (words : ℕ) where
         ∙ ap (λ (t : Bool). cond t (or_else (search_refusal (ask_of w a b 0 0 (face 0 3 4 5)) words) (cond (is_right w.edition a && is_right w.edition b) 0 3)) 21) e
         ∙ ap (λ (m : ℕ). or_else m (cond (is_right w.edition a && is_right w.edition b) 0 3)) (sym f)
 
-    pub first_refused_lem : (r : Refusal) → number_of r ≡ search_refusal (ask_of w a b 0 0 (face 0 3 4 5)) words → number_of r ≡ body_refusal w a b words
-    first_refused_lem r f = sym (by_first (number_of r) f ∙ comes_first r _)
+    pub first_refused_lem : (n : ℕ) → n ≡ search_refusal (ask_of w a b 0 0 (face 0 3 4 5)) words → (n ≡ 0 → ⊥) → n ≡ body_refusal w a b words
+    first_refused_lem n f h = sym (by_first n f ∙ or_else_lem n _ h)
+
+    -- of a refusal
+    pub first_comes : (r : Refusal) → number_of r ≡ search_refusal (ask_of w a b 0 0 (face 0 3 4 5)) words → number_of r ≡ body_refusal w a b words
+    first_comes r f = first_refused_lem (number_of r) f (not_zero r)
 
     pub by_positions : 0 ≡ search_refusal (ask_of w a b 0 0 (face 0 3 4 5)) words → (t : Bool) → (is_right w.edition a && is_right w.edition b) ≡ t → cond t 0 3 ≡ body_refusal w a b words
     by_positions f t r = sym (by_first 0 f ∙ ap (λ (x : Bool). cond x 0 3) r)

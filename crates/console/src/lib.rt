@@ -36,13 +36,6 @@ pub fn read_number(s: &[u8]) -> Option<u32>
     Some(n)
 }
 
-// What a program could not do, and the system's reason.
-#[derive(Clone, Copy)]
-pub struct Failure<'a> {
-    pub what: &'a [u8],
-    pub reason: Error,
-}
-
 // The error of an argument that no path is as long as.
 const NAME_TOO_LONG: i32 = 36;
 
@@ -57,10 +50,10 @@ fn reason(text: &str) -> &str {
     }
 }
 
-// A failure on standard error.
-pub fn report(rt: &HostRuntime, failure: Failure<'_>) {
-    let text = InlineText::<256>::of(failure.reason);
-    say(rt, failure.what);
+// This failure and the system's reason on standard error.
+fn report(rt: &HostRuntime, failure: &[u8], error: Error) {
+    let text = InlineText::<256>::of(error);
+    say(rt, failure);
     say(rt, b": ");
     say(rt, reason(text.as_str()).as_bytes());
     say(rt, b"\n");
@@ -105,16 +98,20 @@ fn read_argument(rt: &HostRuntime, i: usize, buffer: &mut [u8]) -> io::Result<us
     }
 }
 
-// The same; `what` is said where it cannot be read.
-pub fn read_input<'a>(
+// The same. Where it cannot be read, this failure and the system's reason are said on standard error.
+pub fn read_input(
     rt: &HostRuntime,
     i: usize,
     buffer: &mut [u8],
-    what: &'a [u8],
-) -> Result<usize, Failure<'a>>
+    failure: &[u8],
+) -> io::Result<usize>
     ensures { Within result (length buffer.new) }
 {
-    read_argument(rt, i, buffer).map_err(|reason| Failure { what, reason })
+    let read = read_argument(rt, i, buffer);
+    if let Err(error) = read {
+        report(rt, failure, error);
+    }
+    read
 }
 
 // Whether there is an argument i.
@@ -126,11 +123,11 @@ pub fn has_argument(rt: &HostRuntime, i: usize) -> bool {
     }
 }
 
-// A text on standard output; `what` is said where it cannot be written whole.
-pub fn print<'a>(rt: &HostRuntime, text: &[u8], what: &'a [u8]) -> Result<(), Failure<'a>> {
-    rt.stdout()
-        .write_all(text)
-        .map_err(|reason| Failure { what, reason })
+// A text on standard output. Where it cannot be written whole, this failure and the system's reason are said on standard error.
+pub fn print(rt: &HostRuntime, text: &[u8], failure: &[u8]) {
+    if let Err(error) = rt.stdout().write_all(text) {
+        report(rt, failure, error);
+    }
 }
 
 // A sentence on standard error.

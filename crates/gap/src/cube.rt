@@ -12,8 +12,8 @@ fn term(s: i64) -> Span
     ensures { result ≡ span_of (pos 0) s }
 {
     Span {
-        least: i64::min(0, s),
-        greatest: i64::max(0, s),
+        least: whole::least(0, s),
+        greatest: whole::greatest(0, s),
     }
 }
 

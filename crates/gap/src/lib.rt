@@ -57,6 +57,8 @@ pub fn survives_whole(r: Record, words: usize) -> bool
 }
 
 // The first axis, x before y before z, and the side on which all of the box is beyond the separation; none where it survives.
+// Kept out of the way down, which calls itself: its frame is taken at every level.
+#[inline(never)]
 pub fn missed(p: Pair, k: Three, i: Three) -> Option<Miss>
     requires { Ranged p × (Shallow p.deepest k × InGrid k i) }
     ensures { result ≡ missed (asked p) k i }

@@ -11,6 +11,7 @@ use super::cell::Cell;
 use super::cube::over_cube;
 use super::span::{Span, at_moment, over_corners, value};
 use kernel::{Kernel, Pair};
+use whole::{larger, size};
 
 // A unit of F times parts·parts.
 fn unit_of(w: Cell) -> u64
@@ -50,7 +51,7 @@ fn beyond(k: Kernel, w: Cell, d: u64) -> u64
     requires { Small w.parts k × (InParts w × (d ≤ 65536)) }
     ensures { result ≡ beyond k w d }
 {
-    let n = value(at_moment(k, w.parts, w.t0), w.parts, w.u0, w.v0).unsigned_abs();
+    let n = size(value(at_moment(k, w.parts, w.t0), w.parts, w.u0, w.v0));
     let limit = d * unit_of(w);
     n.saturating_sub(limit)
 }
@@ -63,7 +64,7 @@ pub fn excess(p: Pair, w: Cell) -> u32
     let x = beyond(p.x, w, p.dx);
     let y = beyond(p.y, w, p.dy);
     let z = beyond(p.z, w, p.dz);
-    let n = x.max(y.max(z));
+    let n = larger(x, larger(y, z));
     let unit = unit_of(w);
     ((n + (unit - 1)) >> (2 * p.deepest)) as u32
 }

@@ -62,7 +62,8 @@ fn strip_of(k: Kernel, w: Cell, d: u64) -> Strip
     Strip { start, end }
 }
 
-// What the boxes with this t index share.
+// What the boxes with this t index share. Taken into the search: as a call, from two places, it would have a copy of the pair for each in every search's frame.
+#[inline(always)]
 pub fn slab_at(p: Pair, k: Three, t: u64) -> Slab
     requires { Ranged p × (Shallow p.deepest k × (t < 2 ^ k.t)) }
     ensures { result ≡ slab_of p k t }

@@ -51,8 +51,8 @@ fn reach(lo: u64, hi: u64, s: i64) -> Span
     let x = lo as i64 * s;
     let y = hi as i64 * s;
     Span {
-        least: x.min(y),
-        greatest: x.max(y),
+        least: whole::least(x, y),
+        greatest: whole::greatest(x, y),
     }
 }
 
@@ -82,8 +82,8 @@ pub fn join(s: Span, t: Span) -> Span
     ensures { result ≡ joined s t }
 {
     Span {
-        least: s.least.min(t.least),
-        greatest: s.greatest.max(t.greatest),
+        least: whole::least(s.least, t.least),
+        greatest: whole::greatest(s.greatest, t.greatest),
     }
 }
 

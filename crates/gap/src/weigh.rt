@@ -10,6 +10,7 @@ ghost use Rattle.gap.specs.Spread.{Numbers, change_of, step_of, way_of, StepFits
 use super::span::Moment;
 use kernel::{Kernel, Pair};
 use rules::Parameter;
+use whole::{larger, size};
 
 // How A, B, C of an axis change from start to end.
 fn change(k: Kernel) -> Moment
@@ -35,7 +36,7 @@ fn largest(x: i64, y: i64, z: i64) -> u64
     requires { Within spread_most x × (Within spread_most y × Within spread_most z) }
     ensures { result ≡ max (nat_abs x) (max (nat_abs y) (nat_abs z)) }
 {
-    x.unsigned_abs().max(y.unsigned_abs().max(z.unsigned_abs()))
+    larger(size(x), larger(size(y), size(z)))
 }
 
 // The same of the three axes' steps: one of the four ways.
@@ -56,9 +57,9 @@ pub fn spread_t(p: Pair) -> u64
     let x = change(p.x);
     let y = change(p.y);
     let z = change(p.z);
-    let low = way(0, 0, x, y, z).max(way(0, 1, x, y, z));
-    let high = way(1, 0, x, y, z).max(way(1, 1, x, y, z));
-    low.max(high)
+    let low = larger(way(0, 0, x, y, z), way(0, 1, x, y, z));
+    let high = larger(way(1, 0, x, y, z), way(1, 1, x, y, z));
+    larger(low, high)
 }
 
 // Along u the change of F is B, and along v it is C, at the start or at the end.
@@ -71,7 +72,7 @@ pub fn spread_u(p: Pair) -> u64
     let z = p.z;
     let start = largest(x.b0, y.b0, z.b0);
     let end = largest(x.b1, y.b1, z.b1);
-    start.max(end)
+    larger(start, end)
 }
 
 pub fn spread_v(p: Pair) -> u64
@@ -83,7 +84,7 @@ pub fn spread_v(p: Pair) -> u64
     let z = p.z;
     let start = largest(x.c0, y.c0, z.c0);
     let end = largest(x.c1, y.c1, z.c1);
-    start.max(end)
+    larger(start, end)
 }
 
 // A spread at a depth, and one more; 0 at the depth limit, which takes no part.

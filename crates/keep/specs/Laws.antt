@@ -2,12 +2,15 @@
 --     refuses, keeps    what a refused input does, and one that is answered, by what the log's writer says
 --     refuses_long      so an input over 65,536 bytes is refused with 15
 --     kept_fits         what is written lies in the buffer
---     keeps_once        no second answer and no second buffer fits
+--     keeps_once        no second answer and no second buffer fits; said_once, by its number
 -- Assumes nothing.
 use Rattle.std.specs.Prelude.{ℕ, zero, suc, ◌+◌, ◌*◌, ◌<◌, ◌≤◌, ◌≡◌, refl, List, Result, Ok, Err, length}
 use Rattle.std.proofs.Common.{sym, ap, ◌∙◌, arith, length-append}
 use Rattle.rules.specs.QueryFile.{is_wide, edition_of, file_form, record_count, place_of, open_refusal, trailer_bytes, put, put_unless}
 use Rattle.rules.specs.AnswerFile.{answer_form}
+use Rattle.rules.specs.declared.Refusal.{Refusal}
+use Rattle.rules.specs.Refusals.{numbered}
+use Rattle.refusals.specs.Numbered.{same_numbered}
 use Rattle.queries.specs.Sizes.{short_size}
 use Rattle.queries.specs.Opening.{opens}
 use Rattle.queries.specs.Files.{length_trailer}
@@ -81,5 +84,8 @@ fits_if (suc k) n out out' bytes e f kept = let z : ◌≡◌ {A = ℕ} 0 1 = cc
 pub kept_fits : {s out out' : List ℕ} {a : Result ℕ ℕ} {n : ℕ} → Keeps s out out' a → a ≡ Ok n → length out' ≡ length out → n ≤ length out
 kept_fits {s} {out} {out'} h e kept = fits_if (sweep_refusal s) _ out out' (log_bytes s 4096) (sym e ∙ h.says) h.leaves kept
 
-pub keeps_once : {s out out' out'' : List ℕ} {a a' : Result ℕ ℕ} → Keeps s out out' a → Keeps s out out'' a' → (a ≡ a') × (out' ≡ out'')
-keeps_once p q = (p.says ∙ sym q.says, p.leaves ∙ sym q.leaves)
+pub said_once : {s out out' out'' : List ℕ} {a a' : Result ℕ ℕ} → Keeps s out out' a → Keeps s out out'' a' → (a ≡ a') × (out' ≡ out'')
+said_once p q = (p.says ∙ sym q.says, p.leaves ∙ sym q.leaves)
+
+pub keeps_once : {s out out' out'' : List ℕ} {a a' : Result ℕ Refusal} → Keeps s out out' (numbered a) → Keeps s out out'' (numbered a') → (a ≡ a') × (out' ≡ out'')
+keeps_once {a = a} {a' = a'} p q = let once = said_once p q in (same_numbered a a' once.0, once.1)

@@ -5,7 +5,7 @@ ghost use Rattle.std.specs.Prelude.{◌≤◌, length};
 ghost use Rattle.rules.specs.Refusals.{numbered};
 ghost use Rattle.keep.specs.Keeping.{Keeps};
 
-use console::{Failure, has_argument, print, read_input, report, say};
+use console::{has_argument, print, read_input, say};
 use rules::Refusal;
 use std::rt::HostRuntime;
 
@@ -41,15 +41,14 @@ fn refuse(rt: &HostRuntime, refusal: Refusal) {
 }
 
 // The query file answered.
-fn answer(rt: &HostRuntime) -> Result<(), Failure<'static>> {
+fn answer(rt: &HostRuntime) {
     let mut file = [0u8; 65537];
     let mut out = [0u8; 18064];
-    let size = read_input(rt, 1, &mut file, b"keep: the query file cannot be read")?;
+    let Ok(size) = read_input(rt, 1, &mut file, b"keep: the query file cannot be read") else {
+        return;
+    };
     match keep(&file[..size], &mut out) {
-        Err(refusal) => {
-            refuse(rt, refusal);
-            Ok(())
-        }
+        Err(refusal) => refuse(rt, refusal),
         Ok(n) => print(
             rt,
             &out[..n],
@@ -62,7 +61,5 @@ fn main(rt: HostRuntime) {
     if has_argument(&rt, 2) {
         return usage(&rt);
     }
-    if let Err(failure) = answer(&rt) {
-        report(&rt, failure);
-    }
+    answer(&rt);
 }

@@ -2,23 +2,26 @@
 --     ten_exactly                       the test of 10 is the one that document 02 words
 --     refused_open                      the answer of a refusal
 --     opened_refused, opened_records    what an answer says of the file
+--     opened_once                       no second answer of opening fits
 --     entry_fits                        each record of a form stands before the trailer; `records_end`, `record_fits` by the edition
 --     few_records                       how many records a short file has at most
 --     refused_first, opens_first        the file's own refusals come before any others
 --     reach_refused, _index, _good      the refusal of fetching, by the file's own and the index
 -- Assumes nothing.
 use Prim.Native.Nat.{ℕ, zero, suc, ◌+◌, ◌-◌, ◌*◌, ◌<◌, ◌≤◌}
-use Rattle.std.specs.Prelude.{◌≡◌, refl, Bool, true, false, not, cond, ◌&&◌, ◌||◌, List, [], ◌∷◌, ◌++◌, ltb, eqb, length, get_or, drop, Ok, Err}
+use Rattle.std.specs.Prelude.{◌≡◌, refl, Bool, true, false, not, cond, ◌&&◌, ◌||◌, List, [], ◌∷◌, ◌++◌, ltb, eqb, length, get_or, drop, Result, Ok, Err}
 use Rattle.std.proofs.Common.{sym, ◌∙◌, arith, eq-eqb, ltb-false, eqb-true, lt-ltb, le-ltb}
 use Rattle.std.proofs.Math.Path.{ap}
 use Rattle.std.proofs.lemmas.Bool.{not-false}
 use Rattle.rules.specs.declared.Record.{Record}
 use Rattle.rules.specs.declared.Form.{Form}
 use Rattle.rules.specs.declared.Records.{Records}
-use Rattle.rules.specs.Refusals.{Case, first, or_else}
+use Rattle.rules.specs.declared.Refusal.{Refusal}
+use Rattle.rules.specs.Refusals.{Case, first, or_else, numbered}
 use Rattle.rules.specs.QueryFile.{stands, is_edition, is_wide, record_size, edition_bytes, file_form, trailer_place, back_pointer, record_count, open_cases, open_refusal, open_unless, opened, index, reach_refusal, no_record, fetch_unless}
 use Rattle.queries.specs.Sizes.{record_within, short_size}
 use Rattle.refusals.specs.Cases.{first_then, not_due}
+use Rattle.refusals.specs.Numbered.{same_numbered}
 
 -- a file is not refused 10 exactly when its edition is 1, 2 or 3 and the three bytes behind that are zero
 pub ten_exactly : (s : List ℕ) → let at = trailer_place s + 4 in stands s at (edition_bytes (file_form s)) ≡ (is_edition (get_or s at 0) && stands s (at + 1) (0 ∷ 0 ∷ 0 ∷ []))
@@ -106,6 +109,9 @@ opened_records form s o e =
       few = omega (arith, x.few);
       ends = let first : o.first ≡ trailer_place s - back_pointer s = ap (λ (r : Records). r.first) h.1 in omega (arith, x.long, x.room);
     }
+
+pub opened_once : (form : Form) (s : List ℕ) (a b : Result Records Refusal) → numbered a ≡ opened form s → numbered b ≡ opened form s → a ≡ b
+opened_once form s a b p q = same_numbered a b (p ∙ sym q)
 
 -- by the edition: the records end where the trailer begins, and record k stands before it
 pub records_end : {s : List ℕ} {edition place n : ℕ} → Holds (file_form s) s edition place n → place + record_size edition * n + 16 ≡ length s

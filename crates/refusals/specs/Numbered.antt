@@ -1,12 +1,13 @@
 -- A refusal and its number: no two refusals have the same, and none has 0.
 --     same_refusal, same_answer   by the number
+--     same_numbered               and of an answer that holds something
 --     not_zero                    no refusal's number is 0
 -- Assumes nothing.
 use Rattle.std.specs.Prelude.{ℕ, ◌≡◌, refl, cond, eqb, Result, Ok, Err}
 use Rattle.std.proofs.Common.{sym, ap, ◌∙◌}
 use Rattle.rules.specs.declared.Refusal.{Refusal}
 use Rattle.rules.specs.declared.Refusal.TheVariants.{Kind, Flags, Coord, Separation, Tolerance, Budget, Queue, Short, Mark, Edition, Count, Back, Index, Space, Long, Word, Match, Body, Cap, Domain, Later, Bounds}
-use Rattle.rules.specs.Refusals.{number_of, refusal_in}
+use Rattle.rules.specs.Refusals.{number_of, refusal_in, numbered}
 
 -- the refusal of a number
 of_number : ℕ → Refusal
@@ -91,3 +92,9 @@ same_answer (Ok x) (Ok y) e = refl
 same_answer (Ok x) (Err s) e = absurd (not_zero s (sym e))
 same_answer (Err r) (Ok y) e = absurd (not_zero r e)
 same_answer (Err r) (Err s) e = ap Err (same_refusal r s e)
+
+pub same_numbered : {T : Type 0} (a b : Result T Refusal) → numbered a ≡ numbered b → a ≡ b
+same_numbered (Ok x) (Ok y) e = let h : x ≡ y = cc in ap Ok h
+same_numbered (Ok x) (Err s) e = cc
+same_numbered (Err r) (Ok y) e = cc
+same_numbered (Err r) (Err s) e = let h : number_of r ≡ number_of s = cc in ap Err (same_refusal r s h)

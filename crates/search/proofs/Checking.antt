@@ -103,6 +103,17 @@ module _ {p : Pair} {l : Level} {old : List ℕ} (fine : Fine p old l) where
     opened : i < l.size → drop i (take l.size old) ≡ get_or new i 0 ∷ drop (i + 1) (take l.size old)
     opened more = rw (same_at i new old k.unread) (part_cons i l.size old more fits)
 
+    module _ (more : i < l.size) where
+      of_level : OfLevel l.depths (get_or new i 0)
+      of_level = rw (same_at i new old k.unread) (all_front (OfLevel l.depths) old l.size i fits fine.grid more)
+
+      pub one_box_lem : OneBox p l.depths box
+      one_box_lem = record {
+        ranged = fine.ranged;
+        shallow = fine.shallow;
+        grid = of_level.grid;
+      }
+
     module _ {last : ℕ} (affords : Affords p.budget l.count l.size last) where
       module _ (turn : i < last) where
         more : i < l.size
@@ -111,15 +122,9 @@ module _ {p : Pair} {l : Level} {old : List ℕ} (fine : Fine p old l) where
         left : l.count + i < p.budget
         left = omega (arith, affords.within)
 
-        of_level : OfLevel l.depths (get_or new i 0)
-        of_level = rw (same_at i new old k.unread) (all_front (OfLevel l.depths) old l.size i fits fine.grid more)
-
-        pub one_box_lem : OneBox p l.depths box
-        one_box_lem = record {
-          ranged = fine.ranged;
-          shallow = fine.shallow;
-          grid = of_level.grid;
-        }
+        -- a box that the budget affords
+        pub box_of_turn : OneBox p l.depths box
+        box_of_turn = one_box_lem more
 
         -- the box is written to the end of the survivors
         abbrev put : List ℕ
@@ -164,7 +169,7 @@ module _ {p : Pair} {l : Level} {old : List ℕ} (fine : Fine p old l) where
               len = len_put;
               within = omega arith;
               unread = unread_put;
-              grid = rw (add-one m, take-suc-set new m (get_or new i 0) long) (all_snoc (OfLevel l.depths) (take m new) (get_or new i 0) k.grid of_level);
+              grid = rw (add-one m, take-suc-set new m (get_or new i 0) long) (all_snoc (OfLevel l.depths) (take m new) (get_or new i 0) k.grid (of_level more));
               ascends = rw (add-one m, take-suc-set new m (get_or new i 0) long, append_assoc) (rw (opened more) at k.ascends);
               not_full = λ h. f;
               done = rw (← add_assoc l.count i 1, lt-ltb 0 (m + 1) (omega arith), add-one m, take-suc-set new m (get_or new i 0) long, map-append) (pre_more (map box_of (take m new)) box (check (asked p) l.depths rest true d (l.count + i + 1)) ∙ e);

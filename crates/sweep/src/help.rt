@@ -1,8 +1,8 @@
 // What --help prints: one text, so that it is written whole or the failure is said once.
-use console::{Failure, print};
+use console::print;
 use std::rt::HostRuntime;
 
-pub fn help(rt: &HostRuntime) -> Result<(), Failure<'static>> {
+pub fn help(rt: &HostRuntime) {
     print(
         rt,
         b"Usage: sweep [FILE]
@@ -56,5 +56,5 @@ There is no exit status. Output that does not end with a TOTAL or FILE line
 is incomplete; standard error then says why.
 ",
         b"sweep: the help cannot be written to standard output",
-    )
+    );
 }

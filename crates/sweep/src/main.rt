@@ -1,7 +1,7 @@
 // sweep [FILE]: a query file, or standard input, and its answers as lines on standard output.
 #![tactic(auto)]
 
-use console::{Failure, has_argument, print, read_input, report, say};
+use console::{has_argument, print, read_input, say};
 use help::help;
 use std::rt::{Env, HostRuntime};
 
@@ -14,25 +14,27 @@ fn usage(rt: &HostRuntime) {
     );
 }
 
-fn version(rt: &HostRuntime) -> Result<(), Failure<'static>> {
+fn version(rt: &HostRuntime) {
     print(
         rt,
         b"sweep 0.3.0\n",
         b"sweep: the version cannot be written to standard output",
-    )
+    );
 }
 
 // The answers of the query file.
-fn answer(rt: &HostRuntime) -> Result<(), Failure<'static>> {
+fn answer(rt: &HostRuntime) {
     let mut file = [0u8; 65537];
     let mut out = [0u8; 45280];
-    let size = read_input(rt, 1, &mut file, b"sweep: the query file cannot be read")?;
+    let Ok(size) = read_input(rt, 1, &mut file, b"sweep: the query file cannot be read") else {
+        return;
+    };
     let printed = page::write_page(&file[..size], &mut out).unwrap();
     print(
         rt,
         &out[..printed],
         b"sweep: the answers cannot be written to standard output",
-    )
+    );
 }
 
 // Whether an argument begins as an option does.
@@ -41,14 +43,11 @@ fn is_option(argument: &[u8]) -> bool {
 }
 
 // What the one argument asks for; none, and one too long for a path, read as an empty text.
-fn serve(rt: &HostRuntime, argument: &[u8]) -> Result<(), Failure<'static>> {
+fn serve(rt: &HostRuntime, argument: &[u8]) {
     match argument {
         b"--help" => help(rt),
         b"--version" => version(rt),
-        _ if is_option(argument) => {
-            usage(rt);
-            Ok(())
-        }
+        _ if is_option(argument) => usage(rt),
         _ => answer(rt),
     }
 }
@@ -59,7 +58,5 @@ fn main(rt: HostRuntime) {
     }
     let mut text = [0u8; 4096];
     let size = rt.arg(1, &mut text).unwrap_or(0);
-    if let Err(failure) = serve(&rt, &text[..size]) {
-        report(&rt, failure);
-    }
+    serve(&rt, &text[..size]);
 }

@@ -1,7 +1,7 @@
 // tell [FILE]: an answer file, or standard input, and its answers as the lines that sweep prints.
 #![tactic(auto)]
 
-use console::{Failure, has_argument, print, read_input, report, say};
+use console::{has_argument, print, read_input, say};
 use std::rt::HostRuntime;
 
 fn usage(rt: &HostRuntime) {
@@ -12,23 +12,23 @@ fn usage(rt: &HostRuntime) {
 }
 
 // The answers of the answer file.
-fn answer(rt: &HostRuntime) -> Result<(), Failure<'static>> {
+fn answer(rt: &HostRuntime) {
     let mut log = [0u8; 262145];
     let mut out = [0u8; 327840];
-    let size = read_input(rt, 1, &mut log, b"tell: the answer file cannot be read")?;
+    let Ok(size) = read_input(rt, 1, &mut log, b"tell: the answer file cannot be read") else {
+        return;
+    };
     let printed = retold::write_told(&log[..size], &mut out).unwrap();
     print(
         rt,
         &out[..printed],
         b"tell: the answers cannot be written to standard output",
-    )
+    );
 }
 
 fn main(rt: HostRuntime) {
     if has_argument(&rt, 2) {
         return usage(&rt);
     }
-    if let Err(failure) = answer(&rt) {
-        report(&rt, failure);
-    }
+    answer(&rt);
 }

@@ -5,7 +5,7 @@ ghost use Rattle.std.specs.Prelude.{◌≤◌, length};
 ghost use Rattle.text.specs.Writers.{Wrote};
 ghost use Rattle.why.specs.Page.{why_page};
 
-use console::{Failure, has_argument, print, read_input, read_number, report, say};
+use console::{has_argument, print, read_input, read_number, say};
 use rules::{Refusal, Ruling, Three};
 use std::rt::{Env, HostRuntime};
 
@@ -54,25 +54,23 @@ fn asked(rt: &HostRuntime) -> Option<(usize, Three)> {
 }
 
 // Record n of the query file asked about a point.
-fn answer(rt: &HostRuntime, n: usize, at: Three) -> Result<(), Failure<'static>> {
+fn answer(rt: &HostRuntime, n: usize, at: Three) {
     let mut file = [0u8; 65537];
     let mut out = [0u8; 331];
-    let size = read_input(rt, 5, &mut file, b"why: the query file cannot be read")?;
+    let Ok(size) = read_input(rt, 5, &mut file, b"why: the query file cannot be read") else {
+        return;
+    };
     let printed = page(&file[..size], n, at, &mut out);
     print(
         rt,
         &out[..printed],
         b"why: the answer cannot be written to standard output",
-    )
+    );
 }
 
 fn main(rt: HostRuntime) {
     match asked(&rt) {
-        Some((n, at)) if !has_argument(&rt, 6) => {
-            if let Err(failure) = answer(&rt, n, at) {
-                report(&rt, failure);
-            }
-        }
+        Some((n, at)) if !has_argument(&rt, 6) => answer(&rt, n, at),
         _ => usage(&rt),
     }
 }

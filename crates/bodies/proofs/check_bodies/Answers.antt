@@ -4,7 +4,7 @@ use Rattle.rules.specs.declared.Record.{Record}
 use Rattle.rules.specs.Refusals.{search_refusal}
 use Rattle.rules.specs.Bodies.{is_body}
 use Rattle.bounds.specs.Reach.{body_of}
-use Rattle.bodies.proofs.Refusing.{both, no_bodies, first_refused_lem, by_positions, starts_there, ends_there}
+use Rattle.bodies.proofs.Refusing.{both, no_bodies, first_comes, by_positions, starts_there, ends_there}
 use Rattle.bodies.proofs.check_bodies.Goals as goal
 use Rattle.bodies.proofs.check_bodies.Goals.{Else-not-bodies}
 
@@ -28,7 +28,7 @@ pub returns-in_err-check_search : goal.returns-in_err-check_search
 returns-in_err-check_search c =
     let p = err_from_is_err_and c.from_residual.result c.from_residual.ensures.1 in
     rw (p.1, p.2)
-    (first_refused_lem c.args.w (body_of c.args.a) (body_of c.args.b) c.args.words (are_bodies ((goal.at.returns-in_err-check_search c).Else-not-bodies)) _
+    (first_comes c.args.w (body_of c.args.a) (body_of c.args.b) c.args.words (are_bodies ((goal.at.returns-in_err-check_search c).Else-not-bodies)) _
     (c.in_err-check_search.ensures ∙ ap (λ (r : Record). search_refusal r c.args.words) (c.query_at.ensures c.args.a.count c.args.b.count)))
 
 pub returns-then-right : goal.returns-then-right

@@ -3,7 +3,7 @@ use mathlib.Core.Bool.{and-eq-true_iff}
 use lib.Dec.{eqb}
 use borrow.Author.Tests.{eqb-true, eqb-false}
 use Rattle.gap.specs.Slab.{slab_own}
-use Rattle.search.proofs.Checking.{one_box_lem, checks_first, checks_spent, checking_lost, checking_again, checking_first, checks_all}
+use Rattle.search.proofs.Checking.{box_of_turn, checks_first, checks_spent, checking_lost, checking_again, checking_first, checks_all}
 use native.Mathlib.Omega.{arith}
 use Rattle.std.proofs.Common.{true≢false}
 use Rattle.search.proofs.check_level.Goals as goal
@@ -12,17 +12,17 @@ use Rattle.search.proofs.check_level.Goals.{then-alive-m+in_ok-corner, else-aliv
 -- The loop is that of `Checking`.
 pub renewed-slab-requires : goal.renewed-slab-requires
 renewed-slab-requires c =
-    let b = one_box_lem c.requires c.loop-i.invariant.0 c.within_budget-last.ensures c.loop-i-test.true in
+    let b = box_of_turn c.requires c.loop-i.invariant.0 c.within_budget-last.ensures c.loop-i-test.true in
     (b.ranged, (b.shallow, (rw c.unpack-b.ensures b.grid.t, c.loop-i.invariant.1)))
 
 pub survives_in-alive-requires : goal.survives_in-alive-requires
 survives_in-alive-requires c =
-    let b = one_box_lem c.requires c.loop-i.invariant.0 c.within_budget-last.ensures c.loop-i-test.true in
+    let b = box_of_turn c.requires c.loop-i.invariant.0 c.within_budget-last.ensures c.loop-i-test.true in
     (b.ranged, (b.shallow, (rw c.unpack-b.ensures b.grid, c.renewed-slab.ensures)))
 
 pub first_survivor-requires : goal.first_survivor-requires
 first_survivor-requires c =
-    rw c.unpack-b.ensures (one_box_lem c.requires c.loop-i.invariant.0 c.within_budget-last.ensures c.loop-i-test.true)
+    rw c.unpack-b.ensures (box_of_turn c.requires c.loop-i.invariant.0 c.within_budget-last.ensures c.loop-i-test.true)
 
 pub returns-in_err-corner : goal.returns-in_err-corner
 returns-in_err-corner c =

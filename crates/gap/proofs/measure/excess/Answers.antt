@@ -9,12 +9,12 @@ use Rattle.gap.specs.Bounds.{unit_least, beyond_within, excess_most, shift_is}
 use Rattle.gap.proofs.measure.excess.Goals as goal
 
 -- the largest, and what is worked out of it
-largest_is : (c : goal.After-unit_of-unit) → c.max-n.result ≡ largest (λ axis. beyond (on_axis c.args.p axis) c.args.w (apart_on c.args.p axis))
+largest_is : (c : goal.After-unit_of-unit) → c.larger-n.result ≡ largest (λ axis. beyond (on_axis c.args.p axis) c.args.w (apart_on c.args.p axis))
 largest_is c =
-    rw (c.max.ensures, c.beyond-x.ensures, c.beyond-y.ensures, c.beyond-z.ensures)
-    at c.max-n.ensures
+    rw (c.larger.ensures, c.beyond-x.ensures, c.beyond-y.ensures, c.beyond-z.ensures)
+    at c.larger-n.ensures
 
-got : (c : goal.After-unit_of-unit) → (c.max-n.result + (c.unit_of-unit.result - 1)) / 2 ^ (2 * c.args.p.deepest) ≡ excess_of c.args.p c.args.w
+got : (c : goal.After-unit_of-unit) → (c.larger-n.result + (c.unit_of-unit.result - 1)) / 2 ^ (2 * c.args.p.deepest) ≡ excess_of c.args.p c.args.w
 unfolding excess_of
 got c = rw (shift_is c.requires, largest_is c, c.unit_of-unit.ensures)
 

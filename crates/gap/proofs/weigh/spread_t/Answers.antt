@@ -63,8 +63,8 @@ way-requires-4 c = (
 pub returns : goal.returns
 returns c =
     (rw (
-      c.max-high.ensures,
-      c.max-low.ensures,
+      c.larger-high.ensures,
+      c.larger-low.ensures,
       c.way-4.ensures,
       c.way-3.ensures,
       c.way-2.ensures,
@@ -73,5 +73,5 @@ returns c =
       c.change-y.ensures,
       c.change-z.ensures,
     )
-    at c.max.ensures)
+    at c.larger.ensures)
     ∙ spread_t c.args.p

@@ -27,5 +27,5 @@ returns c =
       to_z-of_z (fits tt (numbers c.requires.y).b1),
       to_z-of_z (fits tt (numbers c.requires.z).b1),
     )
-    at c.max.ensures)
+    at c.larger.ensures)
     ∙ spread_u c.args.p

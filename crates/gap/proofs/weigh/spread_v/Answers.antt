@@ -27,5 +27,5 @@ returns c =
       to_z-of_z (fits tt (numbers c.requires.y).c1),
       to_z-of_z (fits tt (numbers c.requires.z).c1),
     )
-    at c.max.ensures)
+    at c.larger.ensures)
     ∙ spread_v c.args.p
