@@ -90,6 +90,18 @@ module _ {p : Pair} {l : Level} {old : List ℕ} (fine : Fine p old l) where
     done = rw add-zero (pre_none whole);
   }
 
+  -- a box of the level that is not read yet
+  module _ (new : List ℕ) (i : ℕ) (unread : drop i new ≡ drop i old) (more : i < l.size) where
+    of_level : OfLevel l.depths (get_or new i 0)
+    of_level = rw (same_at i new old unread) (all_front (OfLevel l.depths) old l.size i fits fine.grid more)
+
+    pub one_box_lem : OneBox p l.depths (box_of (get_or new i 0))
+    one_box_lem = record {
+      ranged = fine.ranged;
+      shallow = fine.shallow;
+      grid = of_level.grid;
+    }
+
   module _ {new : List ℕ} {corner : Corner} {i m : ℕ} (k : Checking p l old new corner i m) where
     left_tidy : Tidy p.room l.used new
     left_tidy = tidy_front p.room l.used i new old (omega (arith, k.i_le, fine.size)) k.unread fine.tidy
@@ -103,17 +115,6 @@ module _ {p : Pair} {l : Level} {old : List ℕ} (fine : Fine p old l) where
     opened : i < l.size → drop i (take l.size old) ≡ get_or new i 0 ∷ drop (i + 1) (take l.size old)
     opened more = rw (same_at i new old k.unread) (part_cons i l.size old more fits)
 
-    module _ (more : i < l.size) where
-      of_level : OfLevel l.depths (get_or new i 0)
-      of_level = rw (same_at i new old k.unread) (all_front (OfLevel l.depths) old l.size i fits fine.grid more)
-
-      pub one_box_lem : OneBox p l.depths box
-      one_box_lem = record {
-        ranged = fine.ranged;
-        shallow = fine.shallow;
-        grid = of_level.grid;
-      }
-
     module _ {last : ℕ} (affords : Affords p.budget l.count l.size last) where
       module _ (turn : i < last) where
         more : i < l.size
@@ -124,7 +125,7 @@ module _ {p : Pair} {l : Level} {old : List ℕ} (fine : Fine p old l) where
 
         -- a box that the budget affords
         pub box_of_turn : OneBox p l.depths box
-        box_of_turn = one_box_lem more
+        box_of_turn = one_box_lem new i k.unread more
 
         -- the box is written to the end of the survivors
         abbrev put : List ℕ
@@ -169,7 +170,7 @@ module _ {p : Pair} {l : Level} {old : List ℕ} (fine : Fine p old l) where
               len = len_put;
               within = omega arith;
               unread = unread_put;
-              grid = rw (add-one m, take-suc-set new m (get_or new i 0) long) (all_snoc (OfLevel l.depths) (take m new) (get_or new i 0) k.grid (of_level more));
+              grid = rw (add-one m, take-suc-set new m (get_or new i 0) long) (all_snoc (OfLevel l.depths) (take m new) (get_or new i 0) k.grid (of_level new i k.unread more));
               ascends = rw (add-one m, take-suc-set new m (get_or new i 0) long, append_assoc) (rw (opened more) at k.ascends);
               not_full = λ h. f;
               done = rw (← add_assoc l.count i 1, lt-ltb 0 (m + 1) (omega arith), add-one m, take-suc-set new m (get_or new i 0) long, map-append) (pre_more (map box_of (take m new)) box (check (asked p) l.depths rest true d (l.count + i + 1)) ∙ e);

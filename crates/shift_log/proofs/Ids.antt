@@ -5,6 +5,7 @@ use mathlib.Core.Bool.{Bool, true, false, cond, not, ◌&&◌, and-true, and_ass
 use mathlib.Core.List.{List, [], ◌∷◌}
 use native.Mathlib.Omega.{arith}
 use native.Mathlib.Numerals.{add-one}
+use Rattle.std.proofs.Math.Nat.{mul-le-mul_left}
 use borrow.Author.Tests.{eq-eqb, ne_eqb}
 use lib.Dec.{eqb}
 use Rattle.rules.specs.Refusals.{Case, first}
@@ -60,6 +61,10 @@ module _ (size : ℕ) (s : List ℕ) (place n : ℕ) (log : List ℕ) where
         ∙ sym (f ∙ (λ i. same_ids (z i) s (place + 4) log (p i) (sym e i)))))
 
 -- ---- of a query file that opens
+-- fewer records take no more bytes
+pub fewer : (first size : ℕ) {m n l : ℕ} → m ≤ n → first + size * n ≤ l → first + size * m ≤ l
+fewer first size e h = omega (arith, mul-le-mul_left size e, h)
+
 pub eight_least : (wide : Bool) → 8 ≤ size_by wide
 eight_least true = omega arith
 eight_least false = omega arith

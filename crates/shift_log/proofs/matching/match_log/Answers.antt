@@ -4,7 +4,7 @@ use Rattle.std.proofs.lemmas.Result.{err_from_is_err_and}
 use Rattle.rules.specs.QueryFile.{is_wide}
 use Rattle.rules.specs.AnswerFile.{answer_form}
 use Rattle.queries.specs.Opening.{Holds, opened_records, opened_refused}
-use Rattle.shift_log.proofs.Ids.{eight_least, rest_refused, rest_counts, rest_ids}
+use Rattle.shift_log.proofs.Ids.{eight_least, fewer, rest_refused, rest_counts, rest_ids}
 use Rattle.shift_log.proofs.matching.match_log.Goals as goal
 use Rattle.shift_log.proofs.matching.match_log.Goals.{In_ok-answers, else-queries-answers-via-then-queries-answers+else-same_ids, else-queries-answers-via-else-queries-answers}
 
@@ -21,7 +21,7 @@ pub same_ids-requires : goal.same_ids-requires
 same_ids-requires c =
     let h = holds ((goal.at.same_ids-requires c).In_ok-answers) in (
       rw c.record_size-size.ensures (eight_least (is_wide c.args.queries.edition)),
-      rw (c.record_size-size.ensures, ← c.if-queries-answers.true) c.requires,
+      rw c.record_size-size.ensures (fewer c.args.queries.first _ (omega (arith, c.if-queries-answers.true)) c.requires),
       omega (arith, h.ends),
     )
 
